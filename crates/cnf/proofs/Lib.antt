@@ -1,0 +1,10 @@
+pub mod Asked
+pub mod Cuts
+pub mod Firsts
+pub mod Forms
+pub mod Proper
+pub mod Short
+pub mod Stamps
+pub mod Accepting
+pub mod Claims
+pub mod Truths

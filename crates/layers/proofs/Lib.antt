@@ -1,0 +1,5 @@
+pub mod Held
+pub mod Appended
+pub mod Fixing
+pub mod Joining
+pub mod Blocking

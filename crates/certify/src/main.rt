@@ -142,7 +142,7 @@ fn show_block<S: Source + Drop>(rt: &LibcRuntime, source: S, claim: &[u8]) -> Re
 }
 
 // The rules with the fixed literals.
-fn rules() -> ClauseTable<'static> {
+fn rules() -> ClauseTable<'static, 'static> {
     ClauseTable {
         variables: 8,
         literals: &RULES,

@@ -10,10 +10,16 @@ mod table;
 
 pub use claim::check_claim;
 pub use fault::Fault;
+pub use fault::FaultDebug;
+pub use fault::FaultPartialEq;
 pub use form::check_form;
 pub use lawful::check_lawful;
 pub use literal::ClauseId;
+pub use literal::ClauseIdDebug;
+pub use literal::ClauseIdPartialEq;
 pub use literal::Literal;
+pub use literal::LiteralDebug;
+pub use literal::LiteralPartialEq;
 pub use model::check_model;
 pub use source::LAST_CLAUSE;
 pub use source::LAST_PLACE;

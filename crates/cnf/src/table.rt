@@ -16,13 +16,13 @@ use crate::source::Source;
 /// Clauses in lent tables: clause k runs from the kth start up to the next, places counted from 0. Any tables are a source: a
 /// clause whose starts fall or leave the literals is empty, and tables without starts list nothing.
 #[derive(Clone, Copy)]
-pub struct ClauseTable<'a> {
+pub struct ClauseTable<'l, 's> {
     pub variables: u32,
-    pub literals: &'a [Literal],
-    pub starts: &'a [u32],
+    pub literals: &'l [Literal],
+    pub starts: &'s [u32],
 }
 
-impl ClauseTable<'_> {
+impl ClauseTable<'_, '_> {
     // Where clause k begins and ends in the literals; both 0 where it has none.
     fn bounds(&self, k: ClauseId) -> (usize, usize)
         ensures clause { λ r. ⌜ clause-at (tabled (numbers-of (now (now (self .entry) .literals))) (now (now (self .entry) .starts))) (k .0) ≡ take (r .1 - r .0) (drop (r .0) (numbers-of (now (now (self .entry) .literals)))) ⌝ }
@@ -51,7 +51,7 @@ impl ClauseTable<'_> {
     }
 }
 
-pub impl Source for ClauseTable<'_> as TableSource {
+pub impl Source for ClauseTable<'_, '_> as TableSource {
     ghost vars = { λ s. s .variables };
 
     ghost listing = { λ s. tabled (numbers-of (now (s .literals))) (now (s .starts)) };

@@ -2,12 +2,10 @@ ghost use mathlib.Core.Path.{_≡_};
 ghost use Prim.Native.Nat.{_≤_};
 ghost use lib.ListN.{length, take};
 ghost use Rattle.std.specs.Results.{Cases};
-ghost use Rattle.std.specs.declared.result.Result.the-variants.{Err};
 ghost use Rattle.cnf.specs.Formula.{block-clause};
 ghost use Rattle.cnf.specs.Told.{literal-at};
-ghost use Rattle.cnf.specs.Faults.{accepted};
-ghost use Rattle.cnf.specs.Checks.{form-answer, assignment-of};
-ghost use Rattle.layers.specs.Blocked.{blocked-listing, Block-means};
+ghost use Rattle.cnf.specs.Checks.{assignment-of};
+ghost use Rattle.layers.specs.Blocked.{blocked-listing, Blocked, Not-blocked, Block-means};
 use crate::unmade::Unmade;
 use cnf::ClauseId;
 use cnf::LAST_CLAUSE;
@@ -44,7 +42,7 @@ fn values_of(claim: &[u8]) -> [bool; MOST]
 impl<S: Source> Block<S> {
     /// Blocks an assignment, a byte for each variable, 1 for true and 0 for false; another form is refused.
     pub fn new(below: S, claim: &[u8]) -> Result<Block<S>, Unmade<S>>
-        ensures answer { λ r. ⌜ Cases r (λ b. (form-answer (vars below) (now (claim .entry)) ≡ accepted) × (b .below ≡ below) × (take (b .count) (b .values) ≡ assignment-of (now (claim .entry)))) (λ e. (form-answer (vars below) (now (claim .entry)) ≡ Err (e .fault)) × (e .below ≡ below)) ⌝ }
+        ensures answer { λ r. ⌜ Cases r (Blocked (vars below) below (now (claim .entry))) (Not-blocked (vars below) below (now (claim .entry))) ⌝ }
         ensures models { λ _. ⌜ Block-means (vars below) (listing below) (assignment-of (now (claim .entry))) ⌝ }
     {
         match check_form(&below, claim) {

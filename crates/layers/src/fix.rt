@@ -1,10 +1,9 @@
 ghost use mathlib.Core.Path.{_≡_};
-ghost use Prim.Native.Nat.{_<_, _≤_};
+ghost use Prim.Native.Nat.{_≤_};
 ghost use lib.ListN.{length, take};
 ghost use Rattle.std.specs.Results.{Cases};
 ghost use Rattle.cnf.specs.Tabled.{numbers-of};
-ghost use Rattle.cnf.specs.declared.fault.Fault.the-variants.{FixFull};
-ghost use Rattle.layers.specs.Fixed.{fixed-listing, Fix-means};
+ghost use Rattle.layers.specs.Fixed.{fixed-listing, Fixed, Not-fixed, Fix-means};
 use crate::unmade::Unmade;
 use cnf::ClauseId;
 use cnf::Fault;
@@ -39,7 +38,7 @@ fn kept(literals: &[Literal]) -> [Literal; MOST]
 impl<S: Source> Fix<S> {
     /// Fixes literals, in their order, whether or not they name a variable of the source; more than 128 are refused.
     pub fn new(below: S, literals: &[Literal]) -> Result<Fix<S>, Unmade<S>>
-        ensures answer { λ r. ⌜ Cases r (λ f. (length (now (literals .entry)) ≤ 128) × (f .below ≡ below) × (take (f .count) (f .literals) ≡ now (literals .entry))) (λ e. (128 < length (now (literals .entry))) × (e .below ≡ below) × (e .fault ≡ FixFull)) ⌝ }
+        ensures answer { λ r. ⌜ Cases r (Fixed below (now (literals .entry))) (Not-fixed below (now (literals .entry))) ⌝ }
         ensures models { λ _. ⌜ Fix-means (vars below) (listing below) (numbers-of (now (literals .entry))) ⌝ }
     {
         let count = literals.len();

@@ -4,7 +4,7 @@ use Prim.Native.Nat.{ℕ}
 use Rattle.std.specs.declared.result.Result.{Result}
 use Rattle.std.specs.declared.result.Result.the-variants.{Ok, Err}
 use Rattle.cnf.specs.declared.fault.Fault.{Fault}
-use Rattle.cnf.specs.declared.fault.Fault.the-variants.{FixFull, Unlawful, ClaimForm, ClaimFalse}
+use Rattle.cnf.specs.declared.fault.Fault.the-variants.{FixFull, Unlawful, ClaimForm, ClaimFalse, IdHeld, TooLong, NoRoom, NotHeld}
 
 -- a fault's number, and its two places
 abbrev pub fault-row : Fault → ℕ × (ℕ × ℕ)
@@ -12,6 +12,10 @@ fault-row FixFull = (22, (129, 0))
 fault-row (Unlawful k) = (31, (k, 0))
 fault-row (ClaimForm p) = (32, (p, 0))
 fault-row (ClaimFalse k) = (33, (k, 0))
+fault-row IdHeld = (61, (0, 0))
+fault-row TooLong = (62, (0, 0))
+fault-row NoRoom = (63, (0, 0))
+fault-row NotHeld = (64, (0, 0))
 
 -- the answer of a check or a call: taken, or refused with a fault
 abbrev pub Answer : Type 0

@@ -12,6 +12,14 @@ pub enum Fault {
     ClaimForm(u32),
     /// The first clause that is false under the claim.
     ClaimFalse(u32),
+    /// The store holds a clause under this id.
+    IdHeld,
+    /// The clause is longer than the store's longest.
+    TooLong,
+    /// The clause costs more than the free units.
+    NoRoom,
+    /// The store holds no clause under this id.
+    NotHeld,
 }
 
 impl Fault {
@@ -24,6 +32,10 @@ impl Fault {
             Fault::Unlawful(_) => 31,
             Fault::ClaimForm(_) => 32,
             Fault::ClaimFalse(_) => 33,
+            Fault::IdHeld => 61,
+            Fault::TooLong => 62,
+            Fault::NoRoom => 63,
+            Fault::NotHeld => 64,
         }
     }
 
@@ -36,6 +48,7 @@ impl Fault {
             Fault::Unlawful(clause) => (clause, 0),
             Fault::ClaimForm(byte) => (byte, 0),
             Fault::ClaimFalse(clause) => (clause, 0),
+            Fault::IdHeld | Fault::TooLong | Fault::NoRoom | Fault::NotHeld => (0, 0),
         }
     }
 }

@@ -1,0 +1,12 @@
+use mathlib.Core.Path.{ap, sym, _∙_}
+use Rattle.std.specs.declared.option.Option.the-variants.{Some}
+use Rattle.std.specs.Of.Vec.{vec-items}
+use Rattle.store.specs.Tables.{length-in}
+use Rattle.store.proofs.Stands.{found-lookup}
+use Rattle.store.proofs.flat.FlatTable.length.Needs as need
+
+pub returns : need.returns
+returns c =
+    let s = c .args .self .now in
+    let l = found-lookup (c .args .id .0) (vec-items (s .entries)) (c .in-Ok .at) (c .index .result .now) (c .in-Ok .ensures tt) (c .index .ensures) in
+    ap Some (c .length .ensures) ∙ sym (ap length-in l)

@@ -1,0 +1,11 @@
+use mathlib.Core.Path.{ap, sym, _∙_}
+use Rattle.std.specs.Of.Vec.{vec-items}
+use Rattle.store.specs.Tables.{literal-in}
+use Rattle.store.proofs.Stands.{found-lookup}
+use Rattle.store.proofs.flat.FlatTable.literal.Needs as need
+
+pub returns : need.returns
+returns c =
+    let s = c .args .self .now in
+    let l = found-lookup (c .args .id .0) (vec-items (s .entries)) (c .in-Ok .at) (c .index .result .now) (c .in-Ok .ensures tt) (c .index .ensures) in
+    c .literal .ensures ∙ sym (ap (literal-in (c .args .j)) l)

@@ -9,3 +9,5 @@ mod literals;
 mod models;
 #[cfg(test)]
 mod sources;
+#[cfg(test)]
+mod stores;

@@ -3,6 +3,8 @@ use cnf::Fault;
 use cnf::FaultDebug;
 use cnf::FaultPartialEq;
 use cnf::Literal;
+use pages::PagedStore;
+use pages::PagedTable;
 use std::test::*;
 use store::FlatStore;
 use store::FlatTable;
@@ -112,7 +114,14 @@ fn compare<T: Store>(store: &T, plain: &Plain, id: u32) -> Result<(), Fail> {
             for (j, l) in literals.iter().take(length as usize).enumerate() {
                 check_eq(l.0, literal(mark, (j % 1024) as u32 + 1).0)?;
             }
-            check_eq(store.literal(ClauseId(id), length).0, if length == 0 { 0 } else { literal(mark, length).0 })
+            check_eq(
+                store.literal(ClauseId(id), length).0,
+                if length == 0 {
+                    0
+                } else {
+                    literal(mark, length).0
+                },
+            )
         }
     }
 }
@@ -129,7 +138,10 @@ fn drive<T: Store>(store: &mut T, plain: &mut Plain, turns: u32) -> Result<(), F
         } else {
             let literals = clause(turn);
             let end = length.min(1025) as usize;
-            check_eq(store.put(ClauseId(id), &literals[0..end]).err(), plain.put(id, turn, length))?;
+            check_eq(
+                store.put(ClauseId(id), &literals[0..end]).err(),
+                plain.put(id, turn, length),
+            )?;
         }
         check_eq(store.held(), plain.count())?;
         check_eq(store.free(), plain.units.saturating_sub(plain.used))?;
@@ -145,7 +157,26 @@ fn drive<T: Store>(store: &mut T, plain: &mut Plain, turns: u32) -> Result<(), F
 #[test]
 fn a_flat_store_against_a_plain_model(rt: LibcRuntime) -> Result<(), Fail> {
     let mut store = FlatStore::new(rt.alloc())?;
-    let mut plain = Plain { held: [None; 40], used: 0, unit: 32, units: 64, longest: 32 };
+    let mut plain = Plain {
+        held: [None; 40],
+        used: 0,
+        unit: 32,
+        units: 64,
+        longest: 32,
+    };
+    drive(&mut store, &mut plain, 400)
+}
+
+#[test]
+fn a_paged_store_against_a_plain_model(rt: LibcRuntime) -> Result<(), Fail> {
+    let mut store = PagedStore::new(rt.alloc())?;
+    let mut plain = Plain {
+        held: [None; 40],
+        used: 0,
+        unit: 8,
+        units: 1024,
+        longest: 1024,
+    };
     drive(&mut store, &mut plain, 400)
 }
 
@@ -157,7 +188,10 @@ fn fill<T: Store>(store: &mut T, length: u32, most: u32) -> Result<(), Fail> {
         for id in 0..most {
             check_eq(store.put(ClauseId(id), &literals[0..end]), Ok(()))?;
         }
-        check_eq((store.held(), store.put(ClauseId(most), &literals[0..end])), (most, Err(Fault::NoRoom)))?;
+        check_eq(
+            (store.held(), store.put(ClauseId(most), &literals[0..end])),
+            (most, Err(Fault::NoRoom)),
+        )?;
         for id in (0..most).rev() {
             check_eq(store.remove(ClauseId(id)), Ok(()))?;
         }
@@ -175,3 +209,14 @@ fn a_flat_store_to_its_last_unit(rt: LibcRuntime) -> Result<(), Fail> {
     check_eq(store.free(), 64)
 }
 
+#[test]
+fn a_paged_store_to_its_last_page(rt: LibcRuntime) -> Result<(), Fail> {
+    let mut store = PagedStore::new(rt.alloc())?;
+    for (length, most) in [(0, 1024), (1, 1024), (8, 1024), (9, 512), (1024, 8)] {
+        fill(&mut store, length, most)?;
+    }
+    check_eq(store.free(), 1024)?;
+    fill(&mut store, 1017, 8)?;
+    store.clear();
+    check_eq((store.held(), store.free()), (0, 1024))
+}

@@ -1,0 +1,11 @@
+pub mod Assignments
+pub mod Complete
+pub mod Count
+pub mod Groups
+pub mod Lawful
+pub mod OneForOne
+pub mod Pigeonhole
+pub mod Sound
+pub mod Truth
+pub mod View
+pub mod Standing

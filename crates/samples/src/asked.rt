@@ -3,7 +3,7 @@ use cnf::Source;
 use std::test::*;
 
 // Asks a source for its numbers, for the lengths of some clauses, and for some literals (clause, place, literal).
-pub fn asked<S: Source>(
+pub(crate) fn asked<S: Source>(
     source: &S,
     numbers: (u32, u32),
     lengths: &[(u32, u32)],

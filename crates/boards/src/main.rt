@@ -1,5 +1,7 @@
 // Certifies the puzzles of several folders, one after another: for each it prints the folder's name and the report on the
 // file puzzle.w32 in it.
+#![tactic(auto)]
+
 use files::bytes_in;
 use report::judge;
 use std::env;

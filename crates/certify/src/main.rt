@@ -1,4 +1,6 @@
 // Takes a set of side rules with a fixed literal, and two claims, through the checks, and prints what it did.
+#![tactic(auto)]
+
 use cnf::{ClauseId, ClauseTable, Fault, Literal, Source, check_claim, check_lawful};
 use layers::{Block, Fix};
 

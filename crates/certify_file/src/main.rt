@@ -1,4 +1,6 @@
 // Certifies the puzzle in the file puzzle.w32 of the current folder, and prints the report on it.
+#![tactic(auto)]
+
 use files::bytes_in;
 use report::judge;
 

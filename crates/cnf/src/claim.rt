@@ -11,8 +11,8 @@ use crate::source::Source;
 
 /// Whether a claim stands: the source is lawful, then the claim has its form, then no clause is false under it.
 pub fn check_claim<S: Source>(source: &S, claim: &[u8]) -> Result<(), Fault>
-    ensures answer { result ≡ claim_answer (vars source.now) (listing source.now) claim.now }
-    ensures stands { (result ≡ accepted) ↔ ClaimStands (vars source.now) (listing source.now) claim.now }
+    ensures answer { result ≡ claim_answer (S.vars source.now) (S.listing source.now) claim.now }
+    ensures stands { (result ≡ accepted) ↔ ClaimStands (S.vars source.now) (S.listing source.now) claim.now }
 {
     check_lawful(source)?;
     check_form(source, claim)?;

@@ -8,8 +8,8 @@ use crate::source::Source;
 
 /// Whether a claim has its form: as many bytes as the source has variables, at most 1,024, each 0 or 1.
 pub fn check_form<S: Source>(source: &S, claim: &[u8]) -> Result<(), Fault>
-    ensures answer { result ≡ form_answer (vars source.now) claim.now }
-    ensures first { vars source.now ≤ 1024 → length claim.now ≡ vars source.now → TellsFirst is_bit ClaimForm claim.now result }
+    ensures answer { result ≡ form_answer (S.vars source.now) claim.now }
+    ensures first { S.vars source.now ≤ 1024 → length claim.now ≡ S.vars source.now → TellsFirst is_bit ClaimForm claim.now result }
 {
     let n = source.variables();
     if n > 1024 {

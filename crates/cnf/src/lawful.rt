@@ -16,8 +16,8 @@ const CLAUSES: u32 = 65535;
 /// Whether a source is lawful: 1 to 1,024 variables, at most 65,535 clauses, each literal of a variable from 1 to n, and
 /// no variable twice in a clause.
 pub fn check_lawful<S: Source>(source: &S) -> Result<(), Fault>
-    ensures answer { result ≡ lawful_answer (vars source.now) (listing source.now) }
-    ensures law { LawfulTold (vars source.now) (listing source.now) result }
+    ensures answer { result ≡ lawful_answer (S.vars source.now) (S.listing source.now) }
+    ensures law { LawfulTold (S.vars source.now) (S.listing source.now) result }
 {
     let n = source.variables();
     let m = source.clauses();
@@ -38,7 +38,7 @@ pub fn check_lawful<S: Source>(source: &S) -> Result<(), Fault>
 fn clause_proper<S: Source>(source: &S, k: ClauseId, n: u32, seen: &mut [u32; 1025]) -> bool
     requires few { n ≤ 1024 }
     requires fresh { (v : ℕ) → slice_index seen.old v < k.0 }
-    ensures answer { result ≡ proper_clause n (clause_at (listing source.now) k.0) }
+    ensures answer { result ≡ proper_clause n (clause_at (S.listing source.now) k.0) }
     ensures stamps { (v : ℕ) → slice_index seen.new v ≤ k.0 }
 {
     let len = source.length(k);

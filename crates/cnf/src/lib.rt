@@ -1,4 +1,6 @@
 // Literals, clauses and models, the interface of a clause source, the clause table, and the checks that a claim needs.
+#![tactic(auto)]
+
 mod claim;
 mod fault;
 mod form;

@@ -33,7 +33,7 @@ fn literal_true(claim: &[u8], l: Literal) -> bool
 
 // Whether clause k, as it is told, is true under a claim.
 fn clause_true<S: Source>(source: &S, k: ClauseId, claim: &[u8]) -> bool
-    ensures { result ≡ clause_true (assignment_of claim.now) (told_clause (clause_at (listing source.now) k.0)) }
+    ensures { result ≡ clause_true (assignment_of claim.now) (told_clause (clause_at (S.listing source.now) k.0)) }
 {
     let len = source.length(k);
     for j in 0..len {
@@ -46,8 +46,8 @@ fn clause_true<S: Source>(source: &S, k: ClauseId, claim: &[u8]) -> bool
 
 /// The first clause that is false under a claim, of the clauses as the source tells them.
 pub fn check_model<S: Source>(source: &S, claim: &[u8]) -> Result<(), Fault>
-    ensures answer { result ≡ clauses_hold (assignment_of claim.now) 1 (told_listing (listing source.now)) }
-    ensures first { Lawful (vars source.now) (listing source.now) → TellsFirst (clause_true (assignment_of claim.now)) ClaimFalse (listing source.now) result }
+    ensures answer { result ≡ clauses_hold (assignment_of claim.now) 1 (told_listing (S.listing source.now)) }
+    ensures first { Lawful (S.vars source.now) (S.listing source.now) → TellsFirst (clause_true (assignment_of claim.now)) ClaimFalse (S.listing source.now) result }
 {
     let m = source.clauses();
     for k in 0..m {

@@ -1,5 +1,7 @@
 // With no argument: makes puzzle.w32 of the board that is drawn in board.txt, and prints the board that its words give. With
 // the path of a puzzle file: prints the board that its words give.
+#![tactic(auto)]
+
 use anyhow::anyhow;
 use cnf::Fault;
 use drawing::{Undrawn, drawing_of, words_of_drawing};

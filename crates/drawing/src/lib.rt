@@ -1,4 +1,6 @@
 // A board drawn with its solution as a text: the puzzle's words that it stands for, and the text of a puzzle.
+#![tactic(auto)]
+
 mod cells;
 mod example;
 mod frame;

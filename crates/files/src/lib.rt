@@ -1,4 +1,6 @@
 // The bytes of files, as the programs read them.
+#![tactic(auto)]
+
 use std::{fs, io};
 
 /// The bytes of a file; a missing one is empty. (No contract can say what a file holds.)

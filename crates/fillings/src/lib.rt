@@ -1,4 +1,6 @@
 // Futoshiki boards whose listings' models are exactly the fillings that keep the rules, one for one.
+#![tactic(auto)]
+
 ghost use Rattle.std.specs.Prelude.{IfOk};
 ghost use Rattle.futoshiki.specs.Meaning.{TellsBoard};
 ghost use Rattle.fillings.specs.Theorems.{BoardTheorem, sample_signs, SampleBoard};

@@ -1,4 +1,6 @@
 // The clauses of a Futoshiki, listed once from its side and its signs, as a source.
+#![tactic(auto)]
+
 mod draft;
 mod groups;
 mod keyed;

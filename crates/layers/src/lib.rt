@@ -1,4 +1,6 @@
 // Layers over any source, each a source again: literals fixed, two sources joined, one assignment blocked.
+#![tactic(auto)]
+
 mod block;
 mod fix;
 mod join;

@@ -1,4 +1,6 @@
 // Reading a list of words into three registers, and what a taken list means.
+#![tactic(auto)]
+
 mod claim;
 mod enter;
 mod posing;

@@ -1,4 +1,6 @@
 // Tests of boards, of the words of puzzles, of reports and of drawings.
+#![tactic(auto)]
+
 #[cfg(test)]
 mod asked;
 #[cfg(test)]

@@ -1,4 +1,6 @@
 // A register of records that have a key, over a lent table.
+#![tactic(auto)]
+
 mod record;
 mod register;
 

@@ -1,4 +1,6 @@
 // From a puzzle file's bytes to the report on it.
+#![tactic(auto)]
+
 mod judging;
 mod verdict;
 

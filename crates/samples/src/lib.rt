@@ -1,4 +1,6 @@
 // Tests of the crates below, with cases at the ends of every range and comparisons with plain evaluation.
+#![tactic(auto)]
+
 #[cfg(test)]
 mod asked;
 #[cfg(test)]

@@ -1,4 +1,6 @@
 // Clause stores: the interface, its laws, and a store of 64 clauses.
+#![tactic(auto)]
+
 mod entry;
 mod flat;
 mod laws;

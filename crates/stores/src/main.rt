@@ -1,4 +1,6 @@
 // Fills a paged store to its last page, makes room, fills it again, and prints what it holds.
+#![tactic(auto)]
+
 use cnf::{ClauseId, Fault, Literal};
 use pages::PagedStore;
 use store::Store;

@@ -1,4 +1,6 @@
 // The words of a puzzle: what each says, and the words of a file's bytes.
+#![tactic(auto)]
+
 mod bytes;
 mod entry;
 mod item;

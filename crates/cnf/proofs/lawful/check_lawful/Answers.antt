@@ -15,8 +15,8 @@ use Rattle.cnf.proofs.lawful.check_lawful.Goals as goal
 pub loop-k-init : goal.loop-k-init
 loop-k-init g c = (refl, λ v. omega (arith, stamps_fresh 1025 v), refl)
 
-pub clause-proper-requires : goal.clause-proper-requires
-clause-proper-requires g c = record { few = c.if-n-gt-VARIABLES.false; fresh = λ v. omega (arith, c.loop-k.invariant.1 v) }
+pub clause_proper-requires : goal.clause_proper-requires
+clause_proper-requires g c = record { few = c.if-n-gt-VARIABLES.false; fresh = λ v. omega (arith, c.loop-k.invariant.1 v) }
 
 pub returns-then-n-eq0 : goal.returns-then-n-eq0
 returns-then-n-eq0 g c =
@@ -25,13 +25,13 @@ returns-then-n-eq0 g c =
     let e : ◌≡◌ {A = Answer} (Err (Unlawful 0)) (lawful_answer n cs) = search rules in
     record { answer = e; law = lawful_tells n cs _ e }
 
-pub returns-then-not-clause-proper : goal.returns-then-not-clause-proper
-returns-then-not-clause-proper g c =
+pub returns-then-not-clause_proper : goal.returns-then-not-clause_proper
+returns-then-not-clause_proper g c =
     let n = g.S.Source.vars c.args.source.now in
     let cs = g.S.Source.listing c.args.source.now in
     let t = c.variables-n.result in
     let k = c.loop-k.k in
-    let bad = ap (proper_clause t) (sym (clause_next cs k (omega arith))) ∙ sym c.if-not-clause-proper.ensures.answer in
+    let bad = ap (proper_clause t) (sym (clause_next cs k (omega arith))) ∙ sym c.if-not-clause_proper.ensures.answer in
     let decide = told_decide n t cs c.clauses-m.result c.variables-n.ensures c.clauses-m.ensures c.if-n-eq0.false c.if-n-gt-VARIABLES.false c.if-m-gt-CLAUSES.false in
     let e = sym (each_stops (proper_clause t) Unlawful cs k [] (omega arith) bad) ∙ c.loop-k.invariant.2 ∙ decide in
     record { answer = e; law = lawful_tells n cs _ e }
@@ -41,9 +41,9 @@ loop-k-preserved g c =
     let cs = g.S.Source.listing c.args.source.now in
     let t = c.variables-n.result in
     let k = c.loop-k.k in
-    let good = ap (proper_clause t) (sym (clause_next cs k (omega arith))) ∙ sym c.if-not-clause-proper.ensures.answer in (
-      c.type-inv.seen,
-      c.clause-proper.ensures.stamps,
+    let good = ap (proper_clause t) (sym (clause_next cs k (omega arith))) ∙ sym c.if-not-clause_proper.ensures.answer in (
+      c.type_inv.seen,
+      c.clause_proper.ensures.stamps,
       sym (each_goes (proper_clause t) Unlawful cs k [] (omega arith) good) ∙ c.loop-k.invariant.2,
     )
 

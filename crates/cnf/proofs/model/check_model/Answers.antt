@@ -7,13 +7,13 @@ use Rattle.cnf.proofs.Firsts.{each_stops, each_goes}
 use Rattle.cnf.proofs.Truths.{length_told_listing, clause_told, model_tells}
 use Rattle.cnf.proofs.model.check_model.Goals as goal
 
-pub returns-then-not-clause-true : goal.returns-then-not-clause-true
-returns-then-not-clause-true g c =
+pub returns-then-not-clause_true : goal.returns-then-not-clause_true
+returns-then-not-clause_true g c =
     let a = assignment_of c.args.claim.now in
     let cs = g.S.Source.listing c.args.source.now in
     let k = c.loop-k.k in
     let m = length_told_listing cs in
-    let e = ap (clause_true a) (clause_told cs k (omega arith)) ∙ sym c.if-not-clause-true.ensures in
+    let e = ap (clause_true a) (clause_told cs k (omega arith)) ∙ sym c.if-not-clause_true.ensures in
     let w = sym (each_stops (clause_true a) ClaimFalse (told_listing cs) k [] (omega arith) e) ∙ c.loop-k.invariant in
     record { answer = w; first = model_tells (g.S.Source.vars c.args.source.now) cs a _ w }
 
@@ -23,7 +23,7 @@ loop-k-preserved g c =
     let cs = g.S.Source.listing c.args.source.now in
     let k = c.loop-k.k in
     let m = length_told_listing cs in
-    let e = ap (clause_true a) (clause_told cs k (omega arith)) ∙ sym c.if-not-clause-true.ensures in
+    let e = ap (clause_true a) (clause_told cs k (omega arith)) ∙ sym c.if-not-clause_true.ensures in
     sym (each_goes (clause_true a) ClaimFalse (told_listing cs) k [] (omega arith) e) ∙ c.loop-k.invariant
 
 pub returns : goal.returns

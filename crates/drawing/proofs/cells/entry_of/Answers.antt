@@ -5,11 +5,11 @@ use Rattle.drawing.specs.Drawn.{digit_place, drawn_entry}
 use Rattle.drawing.proofs.Spots.{digit_drawn}
 use Rattle.drawing.proofs.cells.entry_of.Goals as goal
 
-read : (c : goal.After-byte-at-digit) → c.byte-at-digit.result ≡ get_or c.args.text.now (digit_place c.args.side c.args.cell) 0
-read c = c.byte-at-digit.ensures ∙ ap (λ k. get_or c.args.text.now k 0) c.place-of.ensures.is
+read : (c : goal.After-byte_at-digit) → c.byte_at-digit.result ≡ get_or c.args.text.now (digit_place c.args.side c.args.cell) 0
+read c = c.byte_at-digit.ensures ∙ ap (λ k. get_or c.args.text.now k 0) c.place_of.ensures.is
 
-pub overflow-sub-result : goal.overflow-sub-result
-overflow-sub-result c =
+pub overflow_sub-result : goal.overflow_sub-result
+overflow_sub-result c =
     let e = read c in
     let d = digit_drawn c.args.side c.args.text.now c.requires.drawn c.args.cell c.requires.on in
     omega arith

@@ -5,6 +5,6 @@ use Rattle.drawing.proofs.example.drawn_sample.Goals as goal
 
 pub returns : goal.returns
 returns c = record {
-  words = MatchResult-weaker c.words-of-drawing.result c.words-of-drawing.ensures.answer (λ ws e. sample_words_are (vec_items ws) e) sample_not_refused;
+  words = MatchResult-weaker c.words_of_drawing.result c.words_of_drawing.ensures.answer (λ ws e. sample_words_are (vec_items ws) e) sample_not_refused;
   sample = sample_stands;
 }

@@ -6,25 +6,25 @@ pub returns-then-column-side : goal.returns-then-column-side
 returns-then-column-side c =
     let a = c.args in
     let w = c.width-long.result in
-    let b = c.byte-at-byte.result in
+    let b = c.byte_at-byte.result in
     let o = get_or a.text.now (a.k - 2) 0 in
     sym (line_end a.side (a.k / w) (a.k % w) b o c.if-column-side.true)
-    ∙ fits_by a.side a.text.now a.k (a.k / w) (a.k % w) b o (ap (λ x. a.k / x) c.width-long.ensures) (ap (λ x. a.k % x) c.width-long.ensures) c.byte-at-byte.ensures refl
+    ∙ fits_by a.side a.text.now a.k (a.k / w) (a.k % w) b o (ap (λ x. a.k / x) c.width-long.ensures) (ap (λ x. a.k % x) c.width-long.ensures) c.byte_at-byte.ensures refl
 
 pub returns-then-line-eq0 : goal.returns-then-line-eq0
 returns-then-line-eq0 c =
     let a = c.args in
     let w = c.width-long.result in
-    let b = c.byte-at-byte.result in
+    let b = c.byte_at-byte.result in
     let o = get_or a.text.now (a.k - 2) 0 in
-    c.stands-in-frame.ensures ∙ sym (frame_line a.side (a.k / w) (a.k % w) b o c.if-column-side.false c.if-line-eq0.true)
-    ∙ fits_by a.side a.text.now a.k (a.k / w) (a.k % w) b o (ap (λ x. a.k / x) c.width-long.ensures) (ap (λ x. a.k % x) c.width-long.ensures) c.byte-at-byte.ensures refl
+    c.stands_in_frame.ensures ∙ sym (frame_line a.side (a.k / w) (a.k % w) b o c.if-column-side.false c.if-line-eq0.true)
+    ∙ fits_by a.side a.text.now a.k (a.k / w) (a.k % w) b o (ap (λ x. a.k / x) c.width-long.ensures) (ap (λ x. a.k % x) c.width-long.ensures) c.byte_at-byte.ensures refl
 
 pub returns-else-line-eq0 : goal.returns-else-line-eq0
 returns-else-line-eq0 c =
     let a = c.args in
     let w = c.width-long.result in
-    let b = c.byte-at-byte.result in
-    let o = c.byte-at.result in
-    c.stands-in-row.ensures ∙ sym (row_line a.side (a.k / w) (a.k % w) b o c.if-column-side.false c.if-line-eq0.false)
-    ∙ fits_by a.side a.text.now a.k (a.k / w) (a.k % w) b o (ap (λ x. a.k / x) c.width-long.ensures) (ap (λ x. a.k % x) c.width-long.ensures) c.byte-at-byte.ensures (c.byte-at.ensures ∙ ap (λ x. get_or a.text.now x 0) (omega arith))
+    let b = c.byte_at-byte.result in
+    let o = c.byte_at.result in
+    c.stands_in_row.ensures ∙ sym (row_line a.side (a.k / w) (a.k % w) b o c.if-column-side.false c.if-line-eq0.false)
+    ∙ fits_by a.side a.text.now a.k (a.k / w) (a.k % w) b o (ap (λ x. a.k / x) c.width-long.ensures) (ap (λ x. a.k % x) c.width-long.ensures) c.byte_at-byte.ensures (c.byte_at.ensures ∙ ap (λ x. get_or a.text.now x 0) (omega arith))

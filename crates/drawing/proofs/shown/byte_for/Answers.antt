@@ -5,14 +5,14 @@ use Rattle.drawing.specs.Redrawn.{}
 use Rattle.drawing.proofs.Redrawing.{feed_at, frame_at, row_at}
 use Rattle.drawing.proofs.shown.byte_for.Goals as goal
 
-pub frame-byte-requires : goal.frame-byte-requires
-frame-byte-requires c =
+pub frame_byte-requires : goal.frame_byte-requires
+frame_byte-requires c =
     let l = div-le_self c.args.k c.width-long.result in
     let m = mod_below c.args.k c.width-long.result (omega arith) in
     (omega arith, omega arith, omega arith, c.if-line-eq0.true)
 
-pub row-byte-requires : goal.row-byte-requires
-row-byte-requires c =
+pub row_byte-requires : goal.row_byte-requires
+row_byte-requires c =
     let l = div-le_self c.args.k c.width-long.result in
     let m = mod_below c.args.k c.width-long.result (omega arith) in
     (omega arith, omega arith, omega arith)
@@ -25,7 +25,7 @@ returns-then-column-side c =
 pub returns-then-line-eq0 : goal.returns-then-line-eq0
 returns-then-line-eq0 c =
     let a = c.args in
-    c.frame-byte.ensures ∙ frame_at (puzzle_from a.side a.givens.now a.claims.now a.signs.now) a.k c.width-long.result c.width-long.ensures c.if-column-side.false c.if-line-eq0.true
+    c.frame_byte.ensures ∙ frame_at (puzzle_from a.side a.givens.now a.claims.now a.signs.now) a.k c.width-long.result c.width-long.ensures c.if-column-side.false c.if-line-eq0.true
 
 pub returns-else-line-eq0 : goal.returns-else-line-eq0
 returns-else-line-eq0 c =

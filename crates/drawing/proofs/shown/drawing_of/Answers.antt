@@ -14,8 +14,8 @@ returns-then-side-gt9 c =
 pub loop-k-preserved : goal.loop-k-preserved
 loop-k-preserved c =
     let a = c.args in
-    let pushed : vec_items c.push.new.self ≡ vec_items c.loop-k.text ++ c.byte-for.result ∷ [] = search rules in
-    one_byte_more (puzzle_from a.side a.givens.now a.claims.now a.signs.now) c.loop-k.k c.byte-for.result (vec_items c.loop-k.text) (vec_items c.push.new.self) c.loop-k.invariant pushed c.byte-for.ensures
+    let pushed : vec_items c.push.new.self ≡ vec_items c.loop-k.text ++ c.byte_for.result ∷ [] = search rules in
+    one_byte_more (puzzle_from a.side a.givens.now a.claims.now a.signs.now) c.loop-k.k c.byte_for.result (vec_items c.loop-k.text) (vec_items c.push.new.self) c.loop-k.invariant pushed c.byte_for.ensures
 
 pub returns : goal.returns
 returns c =
@@ -24,5 +24,5 @@ returns c =
     let all = whole_text (puzzle_from a.side a.givens.now a.claims.now a.signs.now) c.loop-k.k (vec_items c.loop-k.text) (omega arith) (omega arith) c.loop-k.invariant in
     record { shown = all; stands = draws_right }
 
-pub returns-in-err-push : goal.returns-in-err-push
-returns-in-err-push c = record { shown = search rules; stands = draws_right }
+pub returns-in_err-push : goal.returns-in_err-push
+returns-in_err-push c = record { shown = search rules; stands = draws_right }

@@ -13,7 +13,7 @@ returns-then-not-keeps c =
     let i = c.loop-s.s-index in
     let s = get_or signs i (record { lesser = 0; greater = 0 }) in
     let e : false ≡ rules_kept N signs =
-    sym (signs_decide N signs c.if-side-lt-LEAST-SIDE.false c.if-side-gt-MOST-SIDE.false c.if-signs-side.false
+    sym (signs_decide N signs c.if-side-lt-LEAST_SIDE.false c.if-side-gt-MOST_SIDE.false c.if-signs-side.false
     ∙ sym c.loop-s.invariant
     ∙ at_drop_more (signs_kept N) signs i (record { lesser = 0; greater = 0 }) c.loop-s-test.true
     ∙ and_left (sign_kept N s) (signs_kept N (drop (i + 1) signs)) (sym c.if-not-keeps.ensures)) in
@@ -33,7 +33,7 @@ returns c =
     let N = c.args.side in
     let signs = c.args.signs.now in
     let e : true ≡ rules_kept N signs =
-    sym (signs_decide N signs c.if-side-lt-LEAST-SIDE.false c.if-side-gt-MOST-SIDE.false c.if-signs-side.false
+    sym (signs_decide N signs c.if-side-lt-LEAST_SIDE.false c.if-side-gt-MOST_SIDE.false c.if-signs-side.false
     ∙ sym c.loop-s.invariant
     ∙ at_drop_all (signs_kept N) signs c.loop-s.s-index c.loop-s-test.false) in
     record { answer = e; words = Decides-at true (rules_kept N signs) e (rules_told N signs) }

@@ -4,20 +4,20 @@ use Rattle.pages.specs.Chains.{full_set}
 use Rattle.pages.specs.Fills.{turn_below, next_is, links_still, others_still, holds_more}
 use Rattle.pages.proofs.page.fill.Goals as goal
 
-pub overflow-cast-page : goal.overflow-cast-page
-overflow-cast-page c = let b = turn_below c.args.pages.now c.loop-i.i c.args.need c.args.head c.loop-i.p 1024 c.loop-i.invariant.1 c.loop-i-test.true c.requires.inside in search rules
+pub overflow_cast-page : goal.overflow_cast-page
+overflow_cast-page c = let b = turn_below c.args.pages.now c.loop-i.i c.args.need c.args.head c.loop-i.p 1024 c.loop-i.invariant.1 c.loop-i-test.true c.requires.inside in search rules
 
-pub offset-bounds-pages-p : goal.offset-bounds-pages-p
-offset-bounds-pages-p c = let b = turn_below c.args.pages.now c.loop-i.i c.args.need c.args.head c.loop-i.p 1024 c.loop-i.invariant.1 c.loop-i-test.true c.requires.inside in search rules
+pub offset_bounds-pages-p : goal.offset_bounds-pages-p
+offset_bounds-pages-p c = let b = turn_below c.args.pages.now c.loop-i.i c.args.need c.args.head c.loop-i.p 1024 c.loop-i.invariant.1 c.loop-i-test.true c.requires.inside in search rules
 
 pub bounds-pages-p : goal.bounds-pages-p
 bounds-pages-p c = turn_below c.args.pages.now c.loop-i.i c.args.need c.args.head c.loop-i.p 1024 c.loop-i.invariant.1 c.loop-i-test.true c.requires.inside
 
-pub overflow-cast-page-in-loop-i : goal.overflow-cast-page-in-loop-i
-overflow-cast-page-in-loop-i c = let b = turn_below c.args.pages.now c.loop-i.i c.args.need c.args.head c.loop-i.p 1024 c.loop-i.invariant.1 c.loop-i-test.true c.requires.inside in search rules
+pub overflow_cast-page-in-loop-i : goal.overflow_cast-page-in-loop-i
+overflow_cast-page-in-loop-i c = let b = turn_below c.args.pages.now c.loop-i.i c.args.need c.args.head c.loop-i.p 1024 c.loop-i.invariant.1 c.loop-i-test.true c.requires.inside in search rules
 
-pub offset-bounds-pages-p-in-loop-i : goal.offset-bounds-pages-p-in-loop-i
-offset-bounds-pages-p-in-loop-i c = let b = turn_below c.args.pages.now c.loop-i.i c.args.need c.args.head c.loop-i.p 1024 c.loop-i.invariant.1 c.loop-i-test.true c.requires.inside in search rules
+pub offset_bounds-pages-p-in-loop-i : goal.offset_bounds-pages-p-in-loop-i
+offset_bounds-pages-p-in-loop-i c = let b = turn_below c.args.pages.now c.loop-i.i c.args.need c.args.head c.loop-i.p 1024 c.loop-i.invariant.1 c.loop-i-test.true c.requires.inside in search rules
 
 pub bounds-pages-p-in-loop-i : goal.bounds-pages-p-in-loop-i
 bounds-pages-p-in-loop-i c = turn_below c.args.pages.now c.loop-i.i c.args.need c.args.head c.loop-i.p 1024 c.loop-i.invariant.1 c.loop-i-test.true c.requires.inside

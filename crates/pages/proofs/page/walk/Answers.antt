@@ -10,11 +10,11 @@ below c =
     let e : c.loop-i.p ≡ page_after c.args.pages.now c.loop-i.i c.args.head = c.loop-i.invariant in
     omega arith
 
-pub overflow-cast-p : goal.overflow-cast-p
-overflow-cast-p c = let b = below c in search rules
+pub overflow_cast-p : goal.overflow_cast-p
+overflow_cast-p c = let b = below c in search rules
 
-pub offset-bounds-pages-p : goal.offset-bounds-pages-p
-offset-bounds-pages-p c = let b = below c in search rules
+pub offset_bounds-pages-p : goal.offset_bounds-pages-p
+offset_bounds-pages-p c = let b = below c in search rules
 
 pub bounds-pages-p : goal.bounds-pages-p
 bounds-pages-p c = below c

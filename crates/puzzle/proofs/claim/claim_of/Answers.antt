@@ -10,7 +10,7 @@ loop-i-preserved c =
     let N = c.args.side in
     let es = c.args.claims.now in
     let i = c.loop-i.i in
-    c.in-ok-push-cell.ensures
+    c.in_ok-push_cell.ensures
     ∙ (λ j. c.loop-i.invariant j ++ map byte_of (map (eqb (c.claimed_value.ensures j)) (up_to N)))
     ∙ cell_more N (claim_at es) i
 

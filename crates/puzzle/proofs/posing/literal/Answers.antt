@@ -3,8 +3,8 @@ use Rattle.std.proofs.lemmas.Nat.{mul-le}
 use Rattle.futoshiki.proofs.Stepping.{asserted_number}
 use Rattle.puzzle.proofs.posing.literal.Goals as goal
 
-pub overflow-cast-result-3 : goal.overflow-cast-result-3
-overflow-cast-result-3 c =
+pub overflow_cast-result-3 : goal.overflow_cast-result-3
+overflow_cast-result-3 c =
     let cells = mul-le c.args.side c.args.side 9 9 c.requires.0 c.requires.0 in
     let few = mul-le (c.args.g.cell - 1) c.args.side 80 9 (omega (arith, c.requires.1.0.1)) c.requires.0 in
     let v = c.requires.1.1.1 in

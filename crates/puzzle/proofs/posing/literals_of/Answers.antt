@@ -19,7 +19,7 @@ loop-g-preserved c =
     let i = c.loop-g.g-index in
     let g = get_or gs i (record { cell = 0; value = 0 }) in
     let number : Entry → ℤ = λ e. pos (variable_at N e.cell e.value) in
-    ap (λ (ls : List Literal). numbers_of ls) c.in-ok-push.ensures.items
+    ap (λ (ls : List Literal). numbers_of ls) c.in_ok-push.ensures.items
     ∙ map-append (λ (l : Literal). l.0) (vec_items c.loop-g.literals) (c.literal.result ∷ [])
     ∙ (λ j. c.loop-g.invariant j ++ c.literal.ensures j ∷ [])
     ∙ sym (ap (given_literals N) (take_more gs i (record { cell = 0; value = 0 }) c.loop-g-test.true) ∙ map-append number (take i gs) (g ∷ []))

@@ -7,22 +7,22 @@ use Rattle.puzzle.proofs.Refound.{refound}
 use Rattle.puzzle.proofs.Whole.{taken_is}
 use Rattle.puzzle.proofs.posing.pose.Goals as goal
 
-pub pose-sound-requires : goal.pose-sound-requires
-pose-sound-requires c =
+pub pose_sound-requires : goal.pose_sound-requires
+pose_sound-requires c =
     let ws = c.args.words.now in
     let v = read_list ample_tables ws in
     let f = c.in-Ok.ensures in
     let r = refound v c.in-Ok.taken 81 162 c.read.new.givens c.read.new.claims c.read.new.signs (sym f.answer) f.givens f.claims f.signs in
     subst Sound (sym r.2) (taken_is ample_tables ws r.0 r.1).sound
 
-pub returns-in-ok-pose-sound : goal.returns-in-ok-pose-sound
-returns-in-ok-pose-sound c =
+pub returns-in_ok-pose_sound : goal.returns-in_ok-pose_sound
+returns-in_ok-pose_sound c =
     let ws = c.args.words.now in
     let v = read_list ample_tables ws in
     let f = c.in-Ok.ensures in
     let r = refound v c.in-Ok.taken 81 162 c.read.new.givens c.read.new.claims c.read.new.signs (sym f.answer) f.givens f.claims f.signs in
     record {
-      answer = (r.0, r.1, subst (λ (P : Puzzle). Poses P c.in-ok-pose-sound.field-0) r.2 c.in-ok-pose-sound.ensures);
+      answer = (r.0, r.1, subst (λ (P : Puzzle). Poses P c.in_ok-pose_sound.field-0) r.2 c.in_ok-pose_sound.ensures);
       forms = f.forms;
       means = f.means;
     }

@@ -18,9 +18,9 @@ unreachable-requires c =
     let N = c.args.side in
     let gs = c.args.givens.now in
     let P = puzzle_from N gs c.args.claims.now c.args.signs.now in
-    let ls = c.as-slice.result.now in
+    let ls = c.as_slice.result.now in
     let number : Entry → ℤ = λ e. pos (variable_at N e.cell e.value) in
-    let same = ap (λ (xs : List Literal). numbers_of xs) c.as-slice.ensures.value ∙ c.in-ok-literals.ensures in
+    let same = ap (λ (xs : List Literal). numbers_of xs) c.as_slice.ensures.value ∙ c.in_ok-literals.ensures in
     let many = sym (length-map ls (λ (l : Literal). l.0)) ∙ ap length same ∙ length-map gs number in
     let high = c.requires.high in
     let few : length gs ≤ 81 = omega (arith, (stands P c.requires).few_givens, mul-le N N 9 9 high high) in
@@ -30,10 +30,10 @@ pub returns : goal.returns
 unfolding puzzle_listing
 returns c =
     let fixed = c.in-Ok.ensures.answer in
-    let told = c.in-ok-rules.ensures.tells in
-    let ls = ap (λ (xs : List Literal). numbers_of xs) (fixed.in_order ∙ c.as-slice.ensures.value) ∙ c.in-ok-literals.ensures in
+    let told = c.in_ok-rules.ensures.tells in
+    let ls = ap (λ (xs : List Literal). numbers_of xs) (fixed.in_order ∙ c.as_slice.ensures.value) ∙ c.in_ok-literals.ensures in
     record {
       variables_posed = ap (λ (s : Futoshiki). source_variables s) fixed.over ∙ told.variables_told;
       clauses_posed = (λ i. fixed_listing (source_listing (fixed.over i)) (ls i)) ∙ ap (λ (cs : List Clause). fixed_listing cs (given_literals c.args.side c.args.givens.now)) told.listing_told;
-      claim_posed = c.in-ok-claim.ensures;
+      claim_posed = c.in_ok-claim.ensures;
     }

@@ -17,12 +17,12 @@ returns-in-Board c =
     record {
       answer = board_tests t st c.args.place c.in-Board.is;
       puzzle = refl;
-      given-table = record { slots_same = refl; blank_same = refl };
-      claim-table = record { slots_same = refl; blank_same = refl };
-      sign-table = record { slots_same = refl; blank_same = refl };
-      given-name = refl;
-      claim-name = refl;
-      sign-name = refl;
+      given_table = record { slots_same = refl; blank_same = refl };
+      claim_table = record { slots_same = refl; blank_same = refl };
+      sign_table = record { slots_same = refl; blank_same = refl };
+      given_name = refl;
+      claim_name = refl;
+      sign_name = refl;
     }
 
 pub returns-in-Given : goal.returns-in-Given
@@ -33,17 +33,17 @@ returns-in-Given c =
     let t = tables_held g k s in
     let P = puzzle_held c.args.side g k s in
     let st = state_held c.args.side c.args.ended g k s in
-    let f = c.enter-entry.ensures in
-    let ok = is_ok c.enter-entry.result in
+    let f = c.enter_entry.ensures in
+    let ok = is_ok c.enter_entry.result in
     record {
       answer = f.answer ∙ given_tests t st c.args.place _ ∙ ap (item_answer t st c.args.place) (sym c.in-Given.is);
-      puzzle = given_more P ok (records_in c.enter-entry.new.register) _ f.records ∙ ap (λ it. cond ok (with_item P it) P) (sym c.in-Given.is);
-      given-table = record { slots_same = f.slots; blank_same = f.blank };
-      claim-table = record { slots_same = refl; blank_same = refl };
-      sign-table = record { slots_same = refl; blank_same = refl };
-      given-name = f.same;
-      claim-name = refl;
-      sign-name = refl;
+      puzzle = given_more P ok (records_in c.enter_entry.new.register) _ f.records ∙ ap (λ it. cond ok (with_item P it) P) (sym c.in-Given.is);
+      given_table = record { slots_same = f.slots; blank_same = f.blank };
+      claim_table = record { slots_same = refl; blank_same = refl };
+      sign_table = record { slots_same = refl; blank_same = refl };
+      given_name = f.same;
+      claim_name = refl;
+      sign_name = refl;
     }
 
 pub returns-in-Claim : goal.returns-in-Claim
@@ -54,17 +54,17 @@ returns-in-Claim c =
     let t = tables_held g k s in
     let P = puzzle_held c.args.side g k s in
     let st = state_held c.args.side c.args.ended g k s in
-    let f = c.enter-entry-in-Claim.ensures in
-    let ok = is_ok c.enter-entry-in-Claim.result in
+    let f = c.enter_entry-in-Claim.ensures in
+    let ok = is_ok c.enter_entry-in-Claim.result in
     record {
       answer = f.answer ∙ claim_tests t st c.args.place _ ∙ ap (item_answer t st c.args.place) (sym c.in-Claim.is);
-      puzzle = claim_more P ok (records_in c.enter-entry-in-Claim.new.register) _ f.records ∙ ap (λ it. cond ok (with_item P it) P) (sym c.in-Claim.is);
-      given-table = record { slots_same = refl; blank_same = refl };
-      claim-table = record { slots_same = f.slots; blank_same = f.blank };
-      sign-table = record { slots_same = refl; blank_same = refl };
-      given-name = refl;
-      claim-name = f.same;
-      sign-name = refl;
+      puzzle = claim_more P ok (records_in c.enter_entry-in-Claim.new.register) _ f.records ∙ ap (λ it. cond ok (with_item P it) P) (sym c.in-Claim.is);
+      given_table = record { slots_same = refl; blank_same = refl };
+      claim_table = record { slots_same = f.slots; blank_same = f.blank };
+      sign_table = record { slots_same = refl; blank_same = refl };
+      given_name = refl;
+      claim_name = f.same;
+      sign_name = refl;
     }
 
 pub returns-in-Less : goal.returns-in-Less
@@ -75,17 +75,17 @@ returns-in-Less c =
     let t = tables_held g k s in
     let P = puzzle_held c.args.side g k s in
     let st = state_held c.args.side c.args.ended g k s in
-    let f = c.enter-sign.ensures in
-    let ok = is_ok c.enter-sign.result in
+    let f = c.enter_sign.ensures in
+    let ok = is_ok c.enter_sign.result in
     record {
       answer = f.answer ∙ sign_tests t st c.args.place _ ∙ ap (item_answer t st c.args.place) (sym c.in-Less.is);
-      puzzle = sign_more P ok (records_in c.enter-sign.new.register) _ f.records ∙ ap (λ it. cond ok (with_item P it) P) (sym c.in-Less.is);
-      given-table = record { slots_same = refl; blank_same = refl };
-      claim-table = record { slots_same = refl; blank_same = refl };
-      sign-table = record { slots_same = f.slots; blank_same = f.blank };
-      given-name = refl;
-      claim-name = refl;
-      sign-name = f.same;
+      puzzle = sign_more P ok (records_in c.enter_sign.new.register) _ f.records ∙ ap (λ it. cond ok (with_item P it) P) (sym c.in-Less.is);
+      given_table = record { slots_same = refl; blank_same = refl };
+      claim_table = record { slots_same = refl; blank_same = refl };
+      sign_table = record { slots_same = f.slots; blank_same = f.blank };
+      given_name = refl;
+      claim_name = refl;
+      sign_name = f.same;
     }
 
 pub returns-in-End : goal.returns-in-End
@@ -96,16 +96,16 @@ returns-in-End c =
     let t = tables_held g k s in
     let P = puzzle_held c.args.side g k s in
     let st = state_held c.args.side c.args.ended g k s in
-    let f = c.end-list.ensures in
-    let ok = is_ok c.end-list.result in
+    let f = c.end_list.ensures in
+    let ok = is_ok c.end_list.result in
     let same = f.same in
     record {
       answer = f.answer ∙ end_tests t st c.args.place ∙ ap (item_answer t st c.args.place) (sym c.in-End.is);
-      puzzle = end_more P ok (records_in c.end-list.new.claims) (ap (λ (x : Register Entry). records_in x) same) ∙ ap (λ it. cond ok (with_item P it) P) (sym c.in-End.is);
-      given-table = record { slots_same = refl; blank_same = refl };
-      claim-table = record { slots_same = ap (λ (x : Register Entry). slots_in x) same; blank_same = ap (λ (x : Register Entry). x.blank) same };
-      sign-table = record { slots_same = refl; blank_same = refl };
-      given-name = refl;
-      claim-name = ap (λ (x : Register Entry). x.slots.ghost_name) same;
-      sign-name = refl;
+      puzzle = end_more P ok (records_in c.end_list.new.claims) (ap (λ (x : Register Entry). records_in x) same) ∙ ap (λ it. cond ok (with_item P it) P) (sym c.in-End.is);
+      given_table = record { slots_same = refl; blank_same = refl };
+      claim_table = record { slots_same = ap (λ (x : Register Entry). slots_in x) same; blank_same = ap (λ (x : Register Entry). x.blank) same };
+      sign_table = record { slots_same = refl; blank_same = refl };
+      given_name = refl;
+      claim_name = ap (λ (x : Register Entry). x.slots.ghost_name) same;
+      sign_name = refl;
     }

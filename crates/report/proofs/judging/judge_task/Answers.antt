@@ -10,4 +10,4 @@ returns-in-Err c =
     let s = c.args.task.now.source in
     let n = fixed_variables s in
     let cs = fixed_clauses s in
-    ap (λ (a : Answer). claim_report n cs a) (c.in-Err.ensures.answer ∙ ap (claim_answer n cs) c.as-slice.ensures.value)
+    ap (λ (a : Answer). claim_report n cs a) (c.in-Err.ensures.answer ∙ ap (claim_answer n cs) c.as_slice.ensures.value)

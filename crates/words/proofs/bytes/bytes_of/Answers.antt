@@ -8,7 +8,7 @@ pub loop-w-preserved : goal.loop-w-preserved
 loop-w-preserved c =
     let ws = c.args.words.now in
     let i = c.loop-w.w-index in
-    c.in-ok-extend-from-slice.ensures.items
+    c.in_ok-extend_from_slice.ensures.items
     ∙ ap (λ (bs : List ℕ). bs ++ four_bytes (get_or ws i 0)) c.loop-w.invariant
     ∙ sym (more_bytes ws i c.loop-w-test.true)
 

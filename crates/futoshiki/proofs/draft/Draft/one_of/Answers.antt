@@ -16,7 +16,7 @@ loop-v-preserved c =
     let first = c.args.first in
     let v = c.loop-v.v in
     let e = asserted_number (first + v) (omega arith) in
-    more_then c.args.self.now c.loop-v.self c.put.new.self (one_of (range_with_len first v)) (one_of (range_with_len first (v + 1))) _ c.loop-v.invariant c.in-ok-put.ensures
+    more_then c.args.self.now c.loop-v.self c.put.new.self (one_of (range_with_len first v)) (one_of (range_with_len first (v + 1))) _ c.loop-v.invariant c.in_ok-put.ensures
     (ap (λ l. one_of (range_with_len first v) ++ l ∷ []) e ∙ sym (map-range_with_len_more pos first v (first + v) (omega arith)))
 
 pub end-requires : goal.end-requires

@@ -7,5 +7,5 @@ use Rattle.futoshiki.proofs.draft.Draft.put.Goals as goal
 pub returns : goal.returns
 returns c = record {
   same_starts = refl;
-  more_literals = ap numbers_of c.in-ok-push.ensures.items ∙ map_push (λ (l : Literal). l.0) (vec_items c.args.self.now.literals) c.args.l;
+  more_literals = ap numbers_of c.in_ok-push.ensures.items ∙ map_push (λ (l : Literal). l.0) (vec_items c.args.self.now.literals) c.args.l;
 }

@@ -5,8 +5,8 @@ use Rattle.futoshiki.proofs.Stepping.{row_stepped}
 use Rattle.futoshiki.proofs.Growing.{group_more}
 use Rattle.futoshiki.proofs.draft.Draft.row_once.Goals as goal
 
-pub no-two-requires : goal.no-two-requires
-no-two-requires c =
+pub no_two-requires : goal.no_two-requires
+no_two-requires c =
     let few = c.loop-v.invariant.few_literals in
     let square = mul-le c.args.side c.args.side 9 9 (omega arith) (omega arith) in
     let blocks = mul-le (c.args.r * c.args.side) c.args.side 72 9 (mul-le c.args.r c.args.side 8 9 (omega arith) (omega arith)) (omega arith) in
@@ -14,5 +14,5 @@ no-two-requires c =
 
 pub loop-v-preserved : goal.loop-v-preserved
 loop-v-preserved c =
-    group_more c.args.self.now c.loop-v.self c.no-two.new.self c.loop-v.v 162 (once_in_row c.args.side (c.args.r + 1)) c.loop-v.invariant c.in-ok-no-two.ensures
+    group_more c.args.self.now c.loop-v.self c.no_two.new.self c.loop-v.v 162 (once_in_row c.args.side (c.args.r + 1)) c.loop-v.invariant c.in_ok-no_two.ensures
     (row_stepped c.args.side c.args.r c.loop-v.v)

@@ -5,8 +5,8 @@ use Rattle.futoshiki.specs.Listing.{not_both}
 use Rattle.futoshiki.proofs.Growing.{group_more}
 use Rattle.futoshiki.proofs.draft.Draft.sign_holds.Goals as goal
 
-pub none-after-requires : goal.none-after-requires
-none-after-requires c =
+pub none_after-requires : goal.none_after-requires
+none_after-requires c =
     let few = c.loop-a.invariant.few_literals in
     let on = c.requires.small.1 in
     let square = mul-le c.args.side c.args.side 9 9 (omega arith) (omega arith) in
@@ -18,6 +18,6 @@ none-after-requires c =
 
 pub loop-a-preserved : goal.loop-a-preserved
 loop-a-preserved c =
-    group_more c.args.self.now c.loop-a.self c.none-after.new.self c.loop-a.a 18
+    group_more c.args.self.now c.loop-a.self c.none_after.new.self c.loop-a.a 18
     (λ a. map (λ b. not_both ((c.from.result - 1) * c.args.side + a) ((c.from-2.result - 1) * c.args.side + b)) (up_to a))
-    c.loop-a.invariant c.in-ok-none-after.ensures refl
+    c.loop-a.invariant c.in_ok-none_after.ensures refl

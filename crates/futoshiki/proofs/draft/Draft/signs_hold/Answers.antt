@@ -5,14 +5,14 @@ use Rattle.futoshiki.specs.Listing.{sign_clauses}
 use Rattle.futoshiki.proofs.Growing.{each_more, each_done}
 use Rattle.futoshiki.proofs.draft.Draft.signs_hold.Goals as goal
 
-pub sign-holds-requires : goal.sign-holds-requires
-sign-holds-requires c =
+pub sign_holds-requires : goal.sign_holds-requires
+sign_holds-requires c =
     let few = c.loop-s.invariant.few_literals in
     record { between = c.loop-s.invariant.between; room = omega arith; small = (c.requires.small.0, All-get_or (OnBoard c.args.side) c.args.signs.now c.loop-s.s-index (record { lesser = 0; greater = 0 }) c.loop-s-test.true c.requires.small.2) }
 
 pub loop-s-preserved : goal.loop-s-preserved
 loop-s-preserved c =
-    each_more (sign_clauses c.args.side) c.args.signs.now c.args.self.now c.loop-s.self c.loop-s.s-index 162 c.sign-holds.new.self (record { lesser = 0; greater = 0 }) c.loop-s-test.true c.loop-s.invariant c.in-ok-sign-holds.ensures
+    each_more (sign_clauses c.args.side) c.args.signs.now c.args.self.now c.loop-s.self c.loop-s.s-index 162 c.sign_holds.new.self (record { lesser = 0; greater = 0 }) c.loop-s-test.true c.loop-s.invariant c.in_ok-sign_holds.ensures
 
 pub returns : goal.returns
 returns c =

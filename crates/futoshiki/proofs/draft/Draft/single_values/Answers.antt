@@ -5,8 +5,8 @@ use Rattle.futoshiki.proofs.Stepping.{cell_stepped}
 use Rattle.futoshiki.proofs.Growing.{group_more, groups_done}
 use Rattle.futoshiki.proofs.draft.Draft.single_values.Goals as goal
 
-pub no-two-requires : goal.no-two-requires
-no-two-requires c =
+pub no_two-requires : goal.no_two-requires
+no_two-requires c =
     let few = c.loop-i.invariant.few_literals in
     let square = mul-le c.args.side c.args.side 9 9 (omega arith) (omega arith) in
     let cell = mul-le c.loop-i.i c.args.side 81 9 (omega arith) (omega arith) in
@@ -14,7 +14,7 @@ no-two-requires c =
 
 pub loop-i-preserved : goal.loop-i-preserved
 loop-i-preserved c =
-    group_more c.args.self.now c.loop-i.self c.no-two.new.self c.loop-i.i 162 (no_two_values c.args.side) c.loop-i.invariant c.in-ok-no-two.ensures
+    group_more c.args.self.now c.loop-i.self c.no_two.new.self c.loop-i.i 162 (no_two_values c.args.side) c.loop-i.invariant c.in_ok-no_two.ensures
     (cell_stepped c.args.side c.loop-i.i)
 
 pub returns : goal.returns

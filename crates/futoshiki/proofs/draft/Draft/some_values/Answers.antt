@@ -5,8 +5,8 @@ use Rattle.futoshiki.proofs.Stepping.{cell_one_of}
 use Rattle.futoshiki.proofs.Growing.{one_more, ones_done}
 use Rattle.futoshiki.proofs.draft.Draft.some_values.Goals as goal
 
-pub one-of-requires : goal.one-of-requires
-one-of-requires c =
+pub one_of-requires : goal.one_of-requires
+one_of-requires c =
     let few = c.loop-i.invariant.few_literals in
     let square = mul-le c.args.side c.args.side 9 9 (omega arith) (omega arith) in
     let cell = mul-le c.loop-i.i c.args.side 81 9 (omega arith) (omega arith) in
@@ -14,7 +14,7 @@ one-of-requires c =
 
 pub loop-i-preserved : goal.loop-i-preserved
 loop-i-preserved c =
-    one_more c.args.self.now c.loop-i.self c.one-of.new.self c.loop-i.i 9 (some_value c.args.side) c.loop-i.invariant c.in-ok-one-of.ensures
+    one_more c.args.self.now c.loop-i.self c.one_of.new.self c.loop-i.i 9 (some_value c.args.side) c.loop-i.invariant c.in_ok-one_of.ensures
     (cell_one_of c.args.side c.loop-i.i)
 
 pub returns : goal.returns

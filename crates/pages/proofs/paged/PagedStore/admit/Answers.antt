@@ -29,8 +29,8 @@ returns-then-literals-gt-LONGEST c =
       place = tt;
     }
 
-pub returns-then-pages-needed-self : goal.returns-then-pages-needed-self
-returns-then-pages-needed-self c =
+pub returns-then-pages_needed-self : goal.returns-then-pages_needed-self
+returns-then-pages_needed-self c =
     let s = c.args.self.now in
     let es = vec_items s.directory in
     let ls = c.args.literals.now in
@@ -44,8 +44,8 @@ returns-then-pages-needed-self c =
       place = tt;
     }
 
-pub returns-else-pages-needed-self : goal.returns-else-pages-needed-self
-returns-else-pages-needed-self c =
+pub returns-else-pages_needed-self : goal.returns-else-pages_needed-self
+returns-else-pages_needed-self c =
     let s = c.args.self.now in
     let es = vec_items s.directory in
     let ls = c.args.literals.now in

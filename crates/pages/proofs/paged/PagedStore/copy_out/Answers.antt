@@ -7,13 +7,13 @@ use Rattle.pages.proofs.Copies.{page_below, page_goes, page_stays, copied_more, 
 use Rattle.pages.proofs.paged.PagedStore.copy_out.Goals as goal
 use Rattle.pages.proofs.paged.PagedStore.copy_out.Goals.{then-j, else-j}
 
-pub overflow-cast-into : goal.overflow-cast-into
-overflow-cast-into c =
+pub overflow_cast-into : goal.overflow_cast-into
+overflow_cast-into c =
     let b = page_below c.args.self.now.pages c.entry-e.result c.loop-j.j c.loop-j.p (length c.args.into.now) c.min-n.result c.loop-j.invariant.0 c.loop-j-test.true c.min-n.ensures c.entry-e.ensures.fits c.entry-e.ensures.inside in
     search rules
 
-pub offset-bounds-self-p : goal.offset-bounds-self-p
-offset-bounds-self-p c =
+pub offset_bounds-self-p : goal.offset_bounds-self-p
+offset_bounds-self-p c =
     let b = page_below c.args.self.now.pages c.entry-e.result c.loop-j.j c.loop-j.p (length c.args.into.now) c.min-n.result c.loop-j.invariant.0 c.loop-j-test.true c.min-n.ensures c.entry-e.ensures.fits c.entry-e.ensures.inside in
     search rules
 
@@ -21,13 +21,13 @@ pub bounds-self-p : goal.bounds-self-p
 bounds-self-p c =
     page_below c.args.self.now.pages c.entry-e.result c.loop-j.j c.loop-j.p (length c.args.into.now) c.min-n.result c.loop-j.invariant.0 c.loop-j-test.true c.min-n.ensures c.entry-e.ensures.fits c.entry-e.ensures.inside
 
-pub overflow-cast-p : goal.overflow-cast-p
-overflow-cast-p c =
+pub overflow_cast-p : goal.overflow_cast-p
+overflow_cast-p c =
     let b = page_below c.args.self.now.pages c.entry-e.result c.loop-j.j c.loop-j.p (length c.args.into.now) c.min-n.result c.loop-j.invariant.0 c.loop-j-test.true c.min-n.ensures c.entry-e.ensures.fits c.entry-e.ensures.inside in
     search rules
 
-pub offset-bounds-self-p-then-j : goal.offset-bounds-self-p-then-j
-offset-bounds-self-p-then-j c =
+pub offset_bounds-self-p-then-j : goal.offset_bounds-self-p-then-j
+offset_bounds-self-p-then-j c =
     let b = page_below c.args.self.now.pages c.entry-e.result c.loop-j.j c.loop-j.p (length c.args.into.now) c.min-n.result c.loop-j.invariant.0 c.loop-j-test.true c.min-n.ensures c.entry-e.ensures.fits c.entry-e.ensures.inside in
     search rules
 

@@ -10,7 +10,7 @@ pub fill-rest-requires : goal.fill-rest-requires
 fill-rest-requires c =
     let s = c.args.self.now in
     let es = vec_items s.directory in
-    let goal = c.pages-needed-need.result in
+    let goal = c.pages_needed-need.result in
     let le : goal ≤ s.spare = omega (arith, c.requires.room) in
     let a = s.all in
     record {
@@ -20,14 +20,14 @@ fill-rest-requires c =
       few = omega arith;
     }
 
-pub invariant-of-self : goal.invariant-of-self
-invariant-of-self c =
+pub invariant_of-self : goal.invariant_of-self
+invariant_of-self c =
     let s = c.args.self.now in
     let es = vec_items s.directory in
     let at = c.args.at in
     let ls = c.args.literals.now in
-    let n = c.pages-needed-need.result in
-    let is = c.pages-needed-need.ensures in
+    let n = c.pages_needed-need.result in
+    let is = c.pages_needed-need.ensures in
     let f = c.fill-rest.ensures in
     let le : n ≤ s.spare = omega (arith, c.requires.room) in
     let len : vec_len s.directory ≡ length es = search rules in
@@ -45,8 +45,8 @@ returns c =
     let es = vec_items s.directory in
     let at = c.args.at in
     let ls = c.args.literals.now in
-    let n = c.pages-needed-need.result in
-    let is = c.pages-needed-need.ensures in
+    let n = c.pages_needed-need.result in
+    let is = c.pages_needed-need.ensures in
     let f = c.fill-rest.ensures in
     let le : n ≤ s.spare = omega (arith, c.requires.room) in
     let len : vec_len s.directory ≡ length es = search rules in

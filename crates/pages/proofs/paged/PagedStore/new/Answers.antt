@@ -3,20 +3,20 @@ use Rattle.pages.specs.Chained.{owner_count, page_total}
 use Rattle.pages.specs.Chains.{fresh_one, fresh_none}
 use Rattle.pages.proofs.paged.PagedStore.new.Goals as goal
 
-pub invariant-of-result : goal.invariant-of-result
-invariant-of-result c =
-    let ps = c.all-pages-pages.result in
-    let m = c.in-ok-directory.ensures in
+pub invariant_of-result : goal.invariant_of-result
+invariant_of-result c =
+    let ps = c.all_pages-pages.result in
+    let m = c.in_ok-directory.ensures in
     let e = m.items in
     let z = ap length e in (
       m.capacity,
       (
         ap (λ es. 1024 + page_total es) e,
         (
-          λ k l. ap (λ es. owner_count ps 0 1024 es k) e ∙ fresh_one ps 1024 c.all-pages-pages.ensures.linked k l,
+          λ k l. ap (λ es. owner_count ps 0 1024 es k) e ∙ fresh_one ps 1024 c.all_pages-pages.ensures.linked k l,
           (
-            λ k l. ap (λ es. owner_count ps 0 1024 es k) e ∙ fresh_none ps 1024 c.all-pages-pages.ensures.linked k l,
-            (c.all-pages-pages.ensures.full, (λ i j l h. absurd (omega arith), (λ k h. absurd (omega arith), (λ k h. absurd (omega arith), tt)))),
+            λ k l. ap (λ es. owner_count ps 0 1024 es k) e ∙ fresh_none ps 1024 c.all_pages-pages.ensures.linked k l,
+            (c.all_pages-pages.ensures.full, (λ i j l h. absurd (omega arith), (λ k h. absurd (omega arith), (λ k h. absurd (omega arith), tt)))),
           ),
         ),
       ),

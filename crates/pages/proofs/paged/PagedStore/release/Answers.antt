@@ -11,8 +11,8 @@ walk-last-requires c =
     let o = p.some in
     chain_front c.args.self.now.pages (e.pages - 1 + 1) e.pages e.head 1024 (omega arith) p.inside
 
-pub invariant-of-self : goal.invariant-of-self
-invariant-of-self c =
+pub invariant_of-self : goal.invariant_of-self
+invariant_of-self c =
     let s = c.args.self.now in
     let es = vec_items s.directory in
     let e = c.entry-e.result in

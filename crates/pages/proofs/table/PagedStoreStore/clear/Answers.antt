@@ -3,19 +3,19 @@ use Rattle.pages.specs.Chained.{owner_count, page_total}
 use Rattle.pages.specs.Chains.{fresh_one, fresh_none}
 use Rattle.pages.proofs.table.PagedStoreStore.clear.Goals as goal
 
-pub invariant-of-self : goal.invariant-of-self
-invariant-of-self c =
-    let ps = c.all-pages-pages.result in
+pub invariant_of-self : goal.invariant_of-self
+invariant_of-self c =
+    let ps = c.all_pages-pages.result in
     let e = c.clear.ensures.items in
     let z = ap length e in (
       omega (arith, c.args.self.now.room, c.clear.ensures.capacity),
       (
         ap (λ es. 1024 + page_total es) e,
         (
-          λ k l. ap (λ es. owner_count ps 0 1024 es k) e ∙ fresh_one ps 1024 c.all-pages-pages.ensures.linked k l,
+          λ k l. ap (λ es. owner_count ps 0 1024 es k) e ∙ fresh_one ps 1024 c.all_pages-pages.ensures.linked k l,
           (
-            λ k l. ap (λ es. owner_count ps 0 1024 es k) e ∙ fresh_none ps 1024 c.all-pages-pages.ensures.linked k l,
-            (c.all-pages-pages.ensures.full, (λ i j l h. absurd (omega arith), (λ k h. absurd (omega arith), (λ k h. absurd (omega arith), tt)))),
+            λ k l. ap (λ es. owner_count ps 0 1024 es k) e ∙ fresh_none ps 1024 c.all_pages-pages.ensures.linked k l,
+            (c.all_pages-pages.ensures.full, (λ i j l h. absurd (omega arith), (λ k h. absurd (omega arith), (λ k h. absurd (omega arith), tt)))),
           ),
         ),
       ),

@@ -2,8 +2,8 @@ use Rattle.std.proofs.Common.{◌≤◌, length, vec_items, arith, rules}
 use Rattle.pages.specs.Places.{few_entries, length_table}
 use Rattle.pages.proofs.table.PagedStoreStore.held.Goals as goal
 
-pub overflow-cast-result : goal.overflow-cast-result
-overflow-cast-result c =
+pub overflow_cast-result : goal.overflow_cast-result
+overflow_cast-result c =
     let s = c.args.self.now in
     let f = few_entries (vec_items s.directory) s.fitting in
     let a = s.all in

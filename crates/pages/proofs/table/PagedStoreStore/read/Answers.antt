@@ -9,8 +9,8 @@ returns-in-Ok c =
     let s = c.args.self.now in
     let found = lookup_held s.pages (vec_items s.directory) c.args.id.0 c.in-Ok.at c.in-Ok.ensures in
     record {
-      answer = ap (λ (m : ℕ). Some m) c.copy-out.ensures.answer ∙ sym (ap length_in found);
-      written = c.copy-out.ensures.written ∙ sym (ap (λ o. read_over o (numbers_of c.args.into.now)) found);
+      answer = ap (λ (m : ℕ). Some m) c.copy_out.ensures.answer ∙ sym (ap length_in found);
+      written = c.copy_out.ensures.written ∙ sym (ap (λ o. read_over o (numbers_of c.args.into.now)) found);
     }
 
 pub returns-in-Err : goal.returns-in-Err

@@ -3,8 +3,8 @@ use Rattle.std.proofs.lemmas.List.{length-set}
 use Rattle.register.proofs.Blanks.{rest_more, rest_all}
 use Rattle.register.proofs.register.Register.clear.Goals as goal
 
-pub invariant-of-self : goal.invariant-of-self
-invariant-of-self g c =
+pub invariant_of-self : goal.invariant_of-self
+invariant_of-self g c =
     let s = c.loop-self.self in
     let l = length-set s.slots.now (s.used - 1) s.blank in
     (omega (arith, s.fits), (rest_more s.blank s.slots.now s.used (omega arith) s.fits s.rest, tt))

@@ -5,8 +5,8 @@ use Rattle.register.proofs.register.Register.new.Goals as goal
 pub loop-i-preserved : goal.loop-i-preserved
 loop-i-preserved g c = blank_more c.blank-blank.result c.loop-i.slots c.loop-i.i (omega arith) c.loop-i.invariant
 
-pub invariant-of-result : goal.invariant-of-result
-invariant-of-result g c =
+pub invariant_of-result : goal.invariant_of-result
+invariant_of-result g c =
     let b = c.blank-blank.result in
     let n = length c.args.slots.now in
     let all = blank_all b c.loop-i.slots c.loop-i.i n (omega arith) (omega arith) c.loop-i.invariant in

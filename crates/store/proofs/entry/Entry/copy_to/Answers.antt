@@ -7,4 +7,4 @@ returns c =
     let e = c.args.self.now in
     let w = e.whole in
     let s = e.short in
-    copied c.min-n.result e.size e.literals c.args.into.now c.copy-from-slice.new.self (omega arith) c.min-n.ensures c.copy-from-slice.ensures.after
+    copied c.min-n.result e.size e.literals c.args.into.now c.copy_from_slice.new.self (omega arith) c.min-n.ensures c.copy_from_slice.ensures.after

@@ -2,10 +2,10 @@ use Rattle.std.proofs.Common.{◌≤◌, length, refl, ap, arith}
 use Rattle.store.specs.Held.{filled_row, filled_length}
 use Rattle.store.proofs.entry.Entry.of.Goals as goal
 
-pub invariant-of-result : goal.invariant-of-result
-invariant-of-result c =
+pub invariant_of-result : goal.invariant_of-result
+invariant_of-result c =
     let h : length c.args.literals.now ≤ 32 = omega arith in
-    (filled_length c.args.literals.now c.copy-from-slice.new.self _ c.copy-from-slice.ensures.after h, (h, tt))
+    (filled_length c.args.literals.now c.copy_from_slice.new.self _ c.copy_from_slice.ensures.after h, (h, tt))
 
 pub returns : goal.returns
-returns c = (omega arith, ap (λ r. (c.args.id, r)) (filled_row _ c.args.literals.now c.copy-from-slice.new.self _ c.copy-from-slice.ensures.after refl))
+returns c = (omega arith, ap (λ r. (c.args.id, r)) (filled_row _ c.args.literals.now c.copy_from_slice.new.self _ c.copy_from_slice.ensures.after refl))

@@ -8,17 +8,17 @@ use Rattle.store.proofs.Lawful.{put_held, put_long, put_full, put_accepts}
 use Rattle.store.specs.Stands.{found_held, put_rows, put_ordered, costs_rows, cost_one}
 use Rattle.store.proofs.flat.FlatStoreStore.put.Goals as goal
 
-pub returns-in-default : goal.returns-in-default
-returns-in-default c =
+pub returns-in_default : goal.returns-in_default
+returns-in_default c =
     let es = vec_items c.args.self.now.entries in
-    let h = found_held c.args.id.0 es c.in-default.field-0 c.in-default.ensures in
+    let h = found_held c.args.id.0 es c.in_default.field-0 c.in_default.ensures in
     record { answer = sym (put_held flat_kind (rows_of es) c.args.id.0 (numbers_of c.args.literals.now) h.0 h.1); after = refl }
 
-pub returns-in-default-of : goal.returns-in-default-of
-returns-in-default-of c =
+pub returns-in_default-of : goal.returns-in_default-of
+returns-in_default-of c =
     let es = vec_items c.args.self.now.entries in
     let n = length_numbers c.args.literals.now in
-    let l = c.in-default-of.ensures in
+    let l = c.in_default-of.ensures in
     record { answer = sym (put_long flat_kind (rows_of es) c.args.id.0 (numbers_of c.args.literals.now) c.in-Err.ensures.2 (omega arith)); after = refl }
 
 pub returns-then-len-ge-UNITS : goal.returns-then-len-ge-UNITS
@@ -34,8 +34,8 @@ returns-then-len-ge-UNITS c =
     let o = cost_one d (omega arith) in
     record { answer = sym (put_full flat_kind (rows_of es) c.args.id.0 d c.in-Err.ensures.2 (omega arith) (omega arith)); after = refl }
 
-pub invariant-of-self : goal.invariant-of-self
-invariant-of-self c =
+pub invariant_of-self : goal.invariant_of-self
+invariant_of-self c =
     let s = c.args.self.now in
     let es = vec_items s.entries in
     let ok : is_ok c.insert.result ≡ true = c.insert.ensures.succeeds (omega arith) in

@@ -10,5 +10,5 @@ returns c =
     let l = found_lookup c.args.id.0 (vec_items s.entries) c.in-Ok.at c.index-entry.result.now c.in-Ok.ensures c.index-entry.ensures in
     record {
       answer = ap Some c.length.ensures ∙ sym (ap length_in l);
-      written = c.copy-to.ensures ∙ sym (ap (λ o. read_over o (numbers_of c.args.into.now)) l);
+      written = c.copy_to.ensures ∙ sym (ap (λ o. read_over o (numbers_of c.args.into.now)) l);
     }

@@ -4,13 +4,13 @@ use Rattle.store.proofs.Lawful.{remove_held, remove_absent}
 use Rattle.store.specs.Stands.{found_lookup, remove_rows, remove_ordered}
 use Rattle.store.proofs.flat.FlatStoreStore.remove.Goals as goal
 
-pub returns-in-default : goal.returns-in-default
-returns-in-default c =
+pub returns-in_default : goal.returns-in_default
+returns-in_default c =
     let t = rows_of (vec_items c.args.self.now.entries) in
-    record { answer = sym (remove_absent t c.args.id.0 c.in-default.ensures.2); after = refl }
+    record { answer = sym (remove_absent t c.args.id.0 c.in_default.ensures.2); after = refl }
 
-pub invariant-of-self : goal.invariant-of-self
-invariant-of-self c =
+pub invariant_of-self : goal.invariant_of-self
+invariant_of-self c =
     let s = c.args.self.now in
     let es = vec_items s.entries in
     let room = c.remove.ensures.capacity in

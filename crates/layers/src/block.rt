@@ -35,8 +35,8 @@ fn values_of(claim: &[u8]) -> [bool; MOST]
 impl<S: Source> Block<S> {
     /// Blocks an assignment, a byte for each variable, 1 for true and 0 for false; another form is refused.
     pub fn new(below: S, claim: &[u8]) -> Result<Block<S>, Unmade<S>>
-        ensures answer { MatchResult result (Blocked (vars below) below claim.now) (NotBlocked (vars below) below claim.now) }
-        ensures models { BlockMeans (vars below) (listing below) (assignment_of claim.now) }
+        ensures answer { MatchResult result (Blocked (S.vars below) below claim.now) (NotBlocked (S.vars below) below claim.now) }
+        ensures models { BlockMeans (S.vars below) (S.listing below) (assignment_of claim.now) }
     {
         match check_form(&below, claim) {
             Ok(()) => Ok(Block {

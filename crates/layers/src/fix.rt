@@ -32,7 +32,7 @@ impl<S: Source> Fix<S> {
     /// Fixes literals, in their order, whether or not they name a variable of the source; more than 128 are refused.
     pub fn new(below: S, literals: &[Literal]) -> Result<Fix<S>, Unmade<S>>
         ensures answer { MatchResult result (Fixed below literals.now) (NotFixed below literals.now) }
-        ensures models { FixMeans (vars below) (listing below) (numbers_of literals.now) }
+        ensures models { FixMeans (S.vars below) (S.listing below) (numbers_of literals.now) }
     {
         let count = literals.len();
         if count > MOST {

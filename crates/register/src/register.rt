@@ -1,4 +1,4 @@
-ghost use Rattle.std.specs.Prelude.{◌≡◌, ℕ, ◌+◌, ◌≤◌, length, take, replicate, is_ok, if◌then◌else◌, slice_index_or, slice_set};
+ghost use Rattle.std.specs.Prelude.{◌≡◌, ℕ, ◌+◌, ◌≤◌, cond, length, take, replicate, is_ok, if◌then◌else◌, slice_index_or, slice_set};
 ghost use Rattle.register.specs.Keys.{has_key, insert_answer};
 
 use crate::record::Record;
@@ -26,8 +26,8 @@ impl<'a, R: Record> Register<'a, R> {
     /// An empty register over a table; every slot becomes blank.
     pub fn new(slots: &'a mut [R]) -> Register<'a, R>
         ensures used { result.used ≡ 0 }
-        ensures slots { result.slots.now ≡ replicate (length slots.old) empty }
-        ensures blank { result.blank ≡ empty }
+        ensures slots { result.slots.now ≡ replicate (length slots.old) R.empty }
+        ensures blank { result.blank ≡ R.empty }
         ensures same { result.slots.ghost_name ≡ slots.entry.ghost_name }
     {
         let blank = R::blank();
@@ -50,7 +50,7 @@ impl<'a, R: Record> Register<'a, R> {
 
     /// Keeps a record after those that came before, unless one with its key is there or the table is full.
     pub fn insert(&mut self, r: R) -> Result<(), Refusal>
-        ensures answer { result ≡ insert_answer (has_key keyed (take self.old.used self.old.slots.now) (keyed r)) self.old.used (length self.old.slots.now) }
+        ensures answer { result ≡ insert_answer (has_key R.keyed (take self.old.used self.old.slots.now) (R.keyed r)) self.old.used (length self.old.slots.now) }
         ensures used { self.new.used ≡ cond (is_ok result) (self.old.used + 1) self.old.used }
         ensures slots { self.new.slots.now ≡ (if is_ok result then slice_set self.old.slots.now self.old.used r else self.old.slots.now) }
         ensures same { self.new.slots.ghost_name ≡ self.old.slots.ghost_name }

@@ -9,4 +9,4 @@ mod register;
 pub use key::Key;
 pub use record::Record;
 pub use refusal::Refusal;
-pub use roster::Register;
+pub use register::Register;

@@ -11,8 +11,8 @@ impl<'a, R: Record> Register<'a, R> {
     /// An empty register over a table; every slot becomes blank.
     pub fn new(slots: &'a mut [R]) -> Register<'a, R>
         ensures records { records_in result ≡ [] }
-        ensures table { result.slots.now ≡ replicate (length slots.old) empty }
-        ensures blank { result.blank ≡ empty }
+        ensures table { result.slots.now ≡ replicate (length slots.old) R.empty }
+        ensures blank { result.blank ≡ R.empty }
         ensures same { result.slots.ghost_name ≡ slots.entry.ghost_name }
     {
         let blank = R::blank();
@@ -36,7 +36,7 @@ impl<'a, R: Record> Register<'a, R> {
 
     /// Whether a record with a key is there. It alters nothing.
     pub fn contains(&mut self, key: Key) -> bool
-        ensures answer { result ≡ has_key keyed (records_in self.old) key }
+        ensures answer { result ≡ has_key R.keyed (records_in self.old) key }
         ensures same { self.new ≡ self.old }
     {
         for i in 0..self.used {
@@ -50,9 +50,9 @@ impl<'a, R: Record> Register<'a, R> {
 
     /// Keeps a record after those that came before, unless one with its key is there or the table is full.
     pub fn insert(&mut self, r: R) -> Result<(), Refusal>
-        ensures answer { result ≡ insert_answer (has_key keyed (records_in self.old) (keyed r)) (length (records_in self.old)) (slots_in self.old) }
+        ensures answer { result ≡ insert_answer (has_key R.keyed (records_in self.old) (R.keyed r)) (length (records_in self.old)) (slots_in self.old) }
         ensures records { records_in self.new ≡ (if is_ok result then records_in self.old ++ r ∷ [] else records_in self.old) }
-        ensures once { NoKeyTwice keyed (records_in self.old) → NoKeyTwice keyed (records_in self.new) }
+        ensures once { NoKeyTwice R.keyed (records_in self.old) → NoKeyTwice R.keyed (records_in self.new) }
         ensures slots { slots_in self.new ≡ slots_in self.old }
         ensures blank { self.new.blank ≡ self.old.blank }
         ensures same { self.new.slots.ghost_name ≡ self.old.slots.ghost_name }

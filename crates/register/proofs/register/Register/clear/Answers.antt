@@ -7,7 +7,7 @@ pub invariant_of-self : goal.invariant_of-self
 invariant_of-self g c =
     let s = c.loop-self.self in
     let l = length-set s.slots.now (s.used - 1) s.blank in
-    (omega (arith, s.fits), (rest_more s.blank s.slots.now s.used (omega arith) s.fits s.rest, tt))
+    record { fits = omega (arith, s.fits); rest = rest_more s.blank s.slots.now s.used (omega arith) s.fits s.rest }
 
 pub returns : goal.returns
 returns g c =

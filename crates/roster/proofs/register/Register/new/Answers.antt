@@ -10,7 +10,7 @@ invariant_of-result g c =
     let b = c.blank-blank.result in
     let n = length c.args.slots.now in
     let all = blank_all b c.loop-i.slots c.loop-i.i n (omega arith) (omega arith) c.loop-i.invariant in
-    (omega arith, (λ k l. blank_rest b c.loop-i.slots n all k, tt))
+    record { fits = omega arith; rest = λ k l. blank_rest b c.loop-i.slots n all k }
 
 pub returns : goal.returns
 returns g c =

@@ -41,10 +41,12 @@ invariant_of-self c =
     let ok : is_ok c.insert.result ≡ true = c.insert.ensures.succeeds (omega arith) in
     let one = c.insert.ensures.len ∙ cond-true (is_ok c.insert.result) _ _ ok in
     let room = c.insert.ensures.capacity in
-    let up = put_ordered c.args.id.0 (numbers_of c.args.literals.now) es c.in-Err.at c.in-Some.entry s.ordered c.in-Err.ensures c.in-Some.ensures.1 in (
-      omega arith,
-      (omega arith, (ap (λ xs. ids_ascend 0 (rows_of xs)) (c.insert.ensures.items ∙ cond-true (is_ok c.insert.result) _ _ ok) ∙ up, tt)),
-    )
+    let up = put_ordered c.args.id.0 (numbers_of c.args.literals.now) es c.in-Err.at c.in-Some.entry s.ordered c.in-Err.ensures c.in-Some.ensures.1 in
+    record {
+      reserved = omega arith;
+      few = omega arith;
+      ordered = ap (λ xs. ids_ascend 0 (rows_of xs)) (c.insert.ensures.items ∙ cond-true (is_ok c.insert.result) _ _ ok) ∙ up;
+    }
 
 pub returns-in-Ok : goal.returns-in-Ok
 unfolding free_units

@@ -16,7 +16,7 @@ invariant_of-self c =
     let room = c.remove.ensures.capacity in
     let fewer = c.remove.ensures.len in
     let up = remove_ordered c.args.id.0 es c.in-Ok.at c.remove.result s.ordered c.in-Ok.ensures c.remove.ensures.value in
-    (omega arith, (omega arith, (ap (λ xs. ids_ascend 0 (rows_of xs)) c.remove.ensures.items ∙ up, tt)))
+    record { reserved = omega arith; few = omega arith; ordered = ap (λ xs. ids_ascend 0 (rows_of xs)) c.remove.ensures.items ∙ up }
 
 pub returns : goal.returns
 returns c =

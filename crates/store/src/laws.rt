@@ -12,8 +12,8 @@ pub fn table_laws()
     ensures same { (t u : Table) → Ascending 0 t → Ascending 0 u → ((i : ℕ) → lookup i t ≡ lookup i u) → t ≡ u }
 {}
 
-/// Does nothing. Its contract is that a store's Table is lawful, so that the laws hold of it.
+/// Does nothing. Its contract is that a store's table is lawful, so that the laws hold of it.
 pub fn store_laws<S: Store>(store: &S)
-    ensures lawful { LawfulTable Kind (Table store.now) }
-    ensures laws { (i : ℕ) (c : Clause) → TableLaws Kind (Table store.now) i c }
+    ensures lawful { LawfulTable S.kind (S.table store.now) }
+    ensures laws { (i : ℕ) (c : Clause) → TableLaws S.kind (S.table store.now) i c }
 {}

@@ -31,17 +31,6 @@ pub record Kept (ps : List Page) (f n : ℕ) (es : List Entry) : Type 0 where
   pub fitting : FittingPages es
   pub short : ShortSizes es
 
--- the same as the ghost fields are owed, one pair in another
-abbrev pub Fields : List Page → ℕ → ℕ → List Entry → Type 0
-Fields ps f n es =
-    (n + page_total es ≡ 1024)
-    × (((k : ℕ) → k < 1024 → owner_count ps f n es k ≡ 1)
-    × (((k : ℕ) → 1024 ≤ k → owner_count ps f n es k ≡ 0)
-    × (FullPages ps 1024 × (RisingIds es × (FittingPages es × (ShortSizes es × Unit {0}))))))
-
-pub fields_of : (ps : List Page) (f n : ℕ) (es : List Entry) → Kept ps f n es → Fields ps f n es
-fields_of ps f n es k = (k.all, (k.one, (k.none, (k.full, (k.order, (k.fitting, (k.short, tt)))))))
-
 -- a clause of the literals ls enters under an id at its gap, on the first free pages
 module _ (ps qs : List Page) (f n : ℕ) (es : List Entry) (at i : ℕ) (ls : List Literal) (r need : ℕ)
     (kept : Kept ps f n es) (gap : GapAt es i at) (short : length ls ≤ 1024) (is : need ≡ pages_for (length ls)) (le : need ≤ n)

@@ -4,7 +4,7 @@ use Rattle.pages.specs.Chains.{after_more, after_below}
 use Rattle.pages.proofs.page.walk.Goals as goal
 
 -- the page of a turn is a page
-below : (c : goal.In-loop-i) → c.loop-i.p < 1024
+below : (c : goal.In-loop-i-unread) → c.loop-i.p < 1024
 below c =
     let b = after_below c.args.pages.now c.loop-i.i (c.args.n + 1) c.args.head 1024 (omega arith) c.requires in
     let e : c.loop-i.p ≡ page_after c.args.pages.now c.loop-i.i c.args.head = c.loop-i.invariant in

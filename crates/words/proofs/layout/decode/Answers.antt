@@ -26,7 +26,7 @@ pub returns-in-3 : goal.returns-in-3
 returns-in-3 c =
     let w = c.args.word in
     record {
-      answer = c.if_clean-in-3.ensures ∙ (λ i. clean 4 w (Less (record { lesser = c.cell.ensures i; greater = c.cell_in-3.ensures i }))) ∙ sym (sign_kind w c.in-3.is);
+      answer = c.if_clean-in-3.ensures ∙ (λ i. clean 4 w (Less (record { lesser = c.cell.ensures i; greater = c.cell-in-3.ensures i }))) ∙ sym (sign_kind w c.in-3.is);
       layout = layouts w;
     }
 
@@ -34,7 +34,7 @@ pub returns-in-5 : goal.returns-in-5
 returns-in-5 c =
     let w = c.args.word in
     record {
-      answer = c.if_clean-in-5.ensures ∙ ap (λ e. clean 8 w (Claim e)) c.entry_in-5.ensures ∙ sym (claim_kind w c.in-5.is);
+      answer = c.if_clean-in-5.ensures ∙ ap (λ e. clean 8 w (Claim e)) c.entry-in-5.ensures ∙ sym (claim_kind w c.in-5.is);
       layout = layouts w;
     }
 

@@ -3,19 +3,19 @@ use Rattle.std.specs.List.{insert}
 use Rattle.std.proofs.lemmas.Bool.{cond-true}
 use Rattle.pages.specs.Chained.{table_of}
 use Rattle.pages.specs.Owners.{owners_le, free_le, free_inside}
-use Rattle.pages.proofs.Keeps.{Kept, fields_of, entry_with, room_left, kept_entered, table_entered}
+use Rattle.pages.proofs.Keeps.{Kept, entry_with, room_left, kept_entered, table_entered}
 use Rattle.pages.proofs.paged.PagedStore.enter.Goals as goal
 
 pub fill-rest-requires : goal.fill-rest-requires
 fill-rest-requires c =
     let s = c.args.self.now in
     let es = vec_items s.directory in
-    let goal = c.pages_needed-need.result in
-    let le : goal ≤ s.spare = omega (arith, c.requires.room) in
+    let need = c.pages_needed-need.result in
+    let le : need ≤ s.spare = omega (arith, c.requires.room) in
     let a = s.all in
     record {
-      inside = free_inside s.pages s.first s.spare goal es 1024 le s.none;
-      once = free_le s.pages s.first s.spare goal es le (owners_le s.pages s.first s.spare es 1024 s.one s.none);
+      inside = free_inside s.pages s.first s.spare need es 1024 le s.none;
+      once = free_le s.pages s.first s.spare need es le (owners_le s.pages s.first s.spare es 1024 s.one s.none);
       full = s.full;
       few = omega arith;
     }
@@ -37,7 +37,16 @@ invariant_of-self c =
     let qs = c.fill-rest.new.pages in
     let after = kept_entered s.pages qs s.first s.spare es at c.args.id ls c.fill-rest.result n kept c.requires.gap c.requires.short is le f.after f.links f.full in
     let now = subst (Kept qs c.fill-rest.result (s.spare - n)) (sym items) after in
-    (omega (arith, s.room, c.insert.ensures.capacity), fields_of qs c.fill-rest.result (s.spare - n) (vec_items c.insert.new.self) now)
+    record {
+      room = omega (arith, s.room, c.insert.ensures.capacity);
+      all = now.all;
+      one = now.one;
+      none = now.none;
+      full = now.full;
+      order = now.order;
+      fitting = now.fitting;
+      short = now.short;
+    }
 
 pub returns : goal.returns
 returns c =

@@ -8,16 +8,14 @@ invariant_of-result c =
     let ps = c.all_pages-pages.result in
     let m = c.in_ok-directory.ensures in
     let e = m.items in
-    let z = ap length e in (
-      m.capacity,
-      (
-        ap (λ es. 1024 + page_total es) e,
-        (
-          λ k l. ap (λ es. owner_count ps 0 1024 es k) e ∙ fresh_one ps 1024 c.all_pages-pages.ensures.linked k l,
-          (
-            λ k l. ap (λ es. owner_count ps 0 1024 es k) e ∙ fresh_none ps 1024 c.all_pages-pages.ensures.linked k l,
-            (c.all_pages-pages.ensures.full, (λ i j l h. absurd (omega arith), (λ k h. absurd (omega arith), (λ k h. absurd (omega arith), tt)))),
-          ),
-        ),
-      ),
-    )
+    let z = ap length e in
+    record {
+      room = m.capacity;
+      all = ap (λ es. 1024 + page_total es) e;
+      one = λ k l. ap (λ es. owner_count ps 0 1024 es k) e ∙ fresh_one ps 1024 c.all_pages-pages.ensures.linked k l;
+      none = λ k l. ap (λ es. owner_count ps 0 1024 es k) e ∙ fresh_none ps 1024 c.all_pages-pages.ensures.linked k l;
+      full = c.all_pages-pages.ensures.full;
+      order = λ i j l h. absurd (omega arith);
+      fitting = λ k h. absurd (omega arith);
+      short = λ k h. absurd (omega arith);
+    }

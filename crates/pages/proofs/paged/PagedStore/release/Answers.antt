@@ -1,7 +1,7 @@
 use Rattle.std.proofs.Common.{◌+◌, ◌-◌, ◌<◌, length, get_or, set, vec_items, sym, ap, ◌∙◌, subst, arith, rules}
 use Rattle.pages.specs.Chained.{no_page, table_of}
 use Rattle.pages.specs.Chains.{chain_front}
-use Rattle.pages.proofs.Keeps.{Kept, fields_of, page_with, kept_released, table_released}
+use Rattle.pages.proofs.Keeps.{Kept, page_with, kept_released, table_released}
 use Rattle.pages.proofs.paged.PagedStore.release.Goals as goal
 
 pub walk-last-requires : goal.walk-last-requires
@@ -24,7 +24,16 @@ invariant_of-self c =
     let qs = set s.pages last (page_with s.first (get_or s.pages last no_page).literals) in
     let after = kept_released s.pages s.first s.spare es c.args.at last c.requires e kept p.is p.some c.walk-last.ensures.is b room in
     let now = subst (Kept qs e.head (s.spare + e.pages)) (sym c.remove.ensures.items) after in
-    (omega (arith, s.room, c.remove.ensures.capacity), fields_of qs e.head (s.spare + e.pages) (vec_items c.remove.new.self) now)
+    record {
+      room = omega (arith, s.room, c.remove.ensures.capacity);
+      all = now.all;
+      one = now.one;
+      none = now.none;
+      full = now.full;
+      order = now.order;
+      fitting = now.fitting;
+      short = now.short;
+    }
 
 pub returns : goal.returns
 returns c =

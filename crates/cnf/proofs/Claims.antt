@@ -1,11 +1,11 @@
 -- The checks of a claim, one after another.
-use Rattle.std.proofs.Common.{◌≡◌, ℕ, ◌≤◌, true, ◌&&◌, ◌||◌, eqb, leb, ◌⊎◌, ◌↔◌, List, [], ◌∷◌, length, Err, sym, refl, ap, ◌∙◌, inl, inr, ⊎_elim}
+use Rattle.std.proofs.Common.{◌≡◌, ℕ, true, ◌&&◌, eqb, leb, ◌⊎◌, ◌↔◌, List, [], ◌∷◌, length, Err, sym, refl, ap, ◌∙◌, inl, inr, ⊎_elim}
 use Rattle.std.specs.List.{AllByRecursion as All}
 use Rattle.std.proofs.lemmas.List.{length-map}
 use Rattle.std.proofs.lemmas.Bool.{and_parts, and_from, or_cases, or_left, or_right, eqb-true, eq-eqb}
 use Rattle.cnf.specs.declared.fault.Fault.{Fault}
 use Rattle.cnf.specs.declared.fault.Fault.TheVariants.{ClaimForm, ClaimFalse}
-use Rattle.cnf.specs.Formula.{Clause, Assignment, Model, Lawful, clause_true, all_true}
+use Rattle.cnf.specs.Formula.{Clause, Assignment, clause_true, all_true}
 use Rattle.cnf.specs.Faults.{Answer, accepted, ◌then◌, check_for}
 use Rattle.cnf.specs.Checks.{is_bit, bytes_fit, form_answer, assignment_of, clauses_hold, lawful_answer, claim_answer, told_listing}
 use Rattle.cnf.specs.Laws.{ClaimStands}

@@ -5,7 +5,7 @@ use Rattle.std.proofs.lemmas.List.{at_drop_more}
 use Rattle.cnf.specs.declared.fault.Fault.{Fault}
 use Rattle.cnf.specs.Faults.{Answer, accepted, ◌then◌, check_for}
 use Rattle.cnf.specs.Checks.{each_passes}
-use Rattle.cnf.specs.Laws.{FirstFailing, TellsFirst}
+use Rattle.cnf.specs.Laws.{TellsFirst}
 
 module _ {X : Type 0} (test : X → Bool) (fault : ℕ → Fault) where
   -- the element at place i, counted from 0

@@ -1,5 +1,5 @@
 -- A claim's form.
-use Rattle.std.proofs.Common.{◌≡◌, ℕ, ◌<◌, ◌≤◌, true, false, ◌&&◌, ◌||◌, eqb, leb, List, length, ap, ◌∙◌, ⊎_elim, arith}
+use Rattle.std.proofs.Common.{◌≡◌, ℕ, ◌<◌, ◌≤◌, true, false, eqb, leb, List, length, ap, ◌∙◌, ⊎_elim, arith}
 use Rattle.std.proofs.lemmas.Bool.{and_from, or_from, or_left, or_right, le-leb, eq-eqb, ne_eqb, cases_eq}
 use Rattle.cnf.specs.declared.fault.Fault.TheVariants.{ClaimForm}
 use Rattle.cnf.specs.Faults.{Answer, ◌then◌, check_for}

@@ -1,7 +1,7 @@
 -- A walk over one clause: the stamp of each variable tells whether the clause has named it.
-use Rattle.std.proofs.Common.{◌≡◌, ℕ, ◌+◌, ◌-◌, ◌<◌, ◌≤◌, Bool, true, false, not, ◌&&◌, ◌||◌, eqb, ltb, leb, List, [], ◌∷◌, length, get_or, drop, set, replicate, ℤ, pos, sym, refl, ap, ◌∙◌, ⊎_elim, arith}
+use Rattle.std.proofs.Common.{◌≡◌, ℕ, ◌+◌, ◌<◌, ◌≤◌, Bool, true, false, ◌&&◌, ◌||◌, eqb, leb, List, [], ◌∷◌, length, get_or, drop, set, replicate, ℤ, pos, sym, refl, ap, ◌∙◌, ⊎_elim, arith}
 use Rattle.std.proofs.lemmas.List.{at_drop_more, at_drop_all, get_or_past, get_or-replicate, length-replicate, get_or-set_same, get_or-set_other}
-use Rattle.std.proofs.lemmas.Bool.{and_left, and_right, and_parts, leb-true, and_from, or_left, or_from, not_from_true, not_from_false, cases_Bool, cases_eq, cases_lt, eq-eqb, ne_eqb, le-ltb, cond-false}
+use Rattle.std.proofs.lemmas.Bool.{and_left, and_right, and_parts, leb-true, and_from, or_left, not_from_true, not_from_false, cases_Bool, cases_eq, cases_lt, eq-eqb, ne_eqb}
 use Rattle.cnf.specs.Formula.{Clause, variable_of, is_among, fresh_literal, proper_after, proper_clause}
 use Rattle.cnf.specs.Told.{capped_length, literal_at}
 use Rattle.cnf.proofs.Asked.{literal_next}

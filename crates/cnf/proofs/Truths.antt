@@ -1,7 +1,7 @@
 -- Truth under a claim's bytes; a clause and a listing as they are told, place by place.
-use Rattle.std.proofs.Common.{◌≡◌, ℕ, zero, suc, ◌+◌, ◌-◌, ◌<◌, ◌≤◌, min, Bool, true, false, ◌||◌, eqb, leb, List, [], ◌∷◌, ◌++◌, map, length, get_or, take, drop, pos, sym, refl, ap, ◌∙◌, ⊎_elim, arith}
+use Rattle.std.proofs.Common.{◌≡◌, ℕ, zero, suc, ◌+◌, ◌-◌, ◌<◌, ◌≤◌, Bool, true, false, ◌||◌, eqb, leb, List, [], ◌∷◌, ◌++◌, map, length, get_or, take, drop, pos, sym, refl, ap, ◌∙◌, ⊎_elim, arith}
 use Rattle.std.proofs.lemmas.List.{length-append, length-map, length-take, get_or-map, get_or-take, get_or_past, get_or_append_left, get_or-append_right, get_or_at, at_drop_more}
-use Rattle.std.proofs.lemmas.Bool.{cases_lt, cases_Bool, cond-true, cond-false, le-leb, lt-leb, leb-true, leb-false}
+use Rattle.std.proofs.lemmas.Bool.{cases_lt, cond-true, cond-false, le-leb, lt-leb}
 use Rattle.cnf.specs.Formula.{Clause, Assignment, value_of, literal_true, clause_true, Lawful}
 use Rattle.cnf.specs.Told.{told_clauses, clause_at, capped_length, literal_at}
 use Rattle.cnf.specs.declared.fault.Fault.TheVariants.{ClaimFalse}

@@ -1,5 +1,5 @@
 -- A clause table: one list of literals, and the places, counted from 0, at which the clauses start.
-use Rattle.std.specs.Prelude.{ℕ, ◌-◌, cond, ◌&&◌, List, [], ◌∷◌, map, length, take, drop, ℤ, nat_le}
+use Rattle.std.specs.Prelude.{ℕ, ◌-◌, cond, ◌&&◌, List, [], ◌∷◌, map, length, take, drop, nat_le}
 use Rattle.cnf.specs.declared.literal.Literal.{Literal}
 use Rattle.cnf.specs.Formula.{Clause}
 

@@ -1,9 +1,9 @@
 -- Two listings, one after the other: what is told of them, their models, and when they are lawful. Assumes nothing.
-use Rattle.std.proofs.Common.{◌≡◌, ℕ, ◌+◌, ◌-◌, ◌<◌, ◌≤◌, min, true, ◌||◌, eqb, ltb, List, [], ◌∷◌, ◌++◌, length, get_or, ℤ, pos, sym, refl, ap, ◌∙◌, ⊎_elim, arith}
+use Rattle.std.proofs.Common.{◌≡◌, ℕ, ◌+◌, ◌-◌, ◌<◌, ◌≤◌, min, true, ◌||◌, eqb, ltb, List, [], ◌∷◌, ◌++◌, length, get_or, sym, refl, ap, ◌∙◌, ⊎_elim, arith}
 use Rattle.std.proofs.lemmas.List.{length-append, get_or_append_left, get_or-append_right, get_or_past}
-use Rattle.std.proofs.lemmas.Bool.{cases_lt, and_parts, and_from, cond_both, cond-true, cond-false, or_right, or_from, lt-ltb, le-ltb, ne_eqb}
+use Rattle.std.proofs.lemmas.Bool.{cases_lt, and_parts, and_from, cond_both}
 use Rattle.cnf.specs.Formula.{Clause, Assignment, clause_true, all_true, proper_clause, all_proper}
-use Rattle.cnf.specs.Told.{told_clauses, clause_at, literal_at}
+use Rattle.cnf.specs.Told.{told_clauses, clause_at}
 use Rattle.cnf.proofs.Asked.{clause_past, clause_in}
 
 -- outside the listing there is none either

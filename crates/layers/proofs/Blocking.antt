@@ -1,7 +1,7 @@
 -- The block clause: what is told of it, and that it is false under its assignment alone. Assumes nothing.
-use Rattle.std.proofs.Common.{◌≡◌, ℕ, zero, suc, ◌+◌, ◌-◌, ◌<◌, ◌≤◌, min, Bool, true, false, not, ◌&&◌, ◌||◌, eqb, ltb, leb, ◌≢◌, ◌↔◌, List, [], ◌∷◌, ◌++◌, length, get_or, take, drop, set, pos, sym, refl, ap, ◌∙◌, subst, inl, inr, arith, drop-cons}
-use Rattle.std.proofs.lemmas.List.{length-append, length-take-le, get_or-take, get_or_past, drop_all, map_more, take_all, take_more_set}
-use Rattle.std.proofs.lemmas.Bool.{both_ways, and_parts, and_from, or_parts, or_from, not-false, not_from_true, not_from_false, cases_Bool, cond-false, cond_both, le-leb, le-ltb, ne_eqb}
+use Rattle.std.proofs.Common.{◌≡◌, ℕ, zero, suc, ◌+◌, ◌-◌, ◌<◌, ◌≤◌, min, Bool, true, false, not, ◌&&◌, eqb, leb, ◌≢◌, ◌↔◌, List, [], ◌∷◌, ◌++◌, length, get_or, take, drop, set, pos, sym, refl, ap, ◌∙◌, subst, inl, inr, arith, drop-cons}
+use Rattle.std.proofs.lemmas.List.{length-append, drop_all, map_more, take_all, take_more_set}
+use Rattle.std.proofs.lemmas.Bool.{both_ways, and_parts, and_from, or_parts, or_from, not-false, not_from_true, not_from_false, cases_Bool, le-leb, ne_eqb}
 use Rattle.cnf.specs.Formula.{Clause, Assignment, variable_of, literal_true, clause_true, Model, Lawful, denial_of, denials_from, block_clause, is_among, fresh_literal, proper_after, proper_clause}
 use Rattle.cnf.specs.Told.{told_clauses, clause_at, literal_at}
 use Rattle.cnf.specs.Checks.{assignment_of}

@@ -1,10 +1,8 @@
 -- Literals as clauses of their own: what is told of them, and what they do to the models. Assumes nothing.
-use Rattle.std.proofs.Common.{◌≡◌, ℕ, ◌+◌, ◌-◌, ◌<◌, ◌≤◌, min, true, false, ◌&&◌, ◌||◌, eqb, ltb, leb, ◌↔◌, List, [], ◌∷◌, length, get_or, take, ℤ, pos, refl, ap, ◌∙◌, ⊎_elim, arith}
+use Rattle.std.proofs.Common.{◌≡◌, ℕ, ◌+◌, ◌-◌, ◌<◌, ◌≤◌, min, true, false, ◌&&◌, ◌||◌, leb, ◌↔◌, List, [], ◌∷◌, length, get_or, ℤ, pos, refl, ◌∙◌, ⊎_elim, arith}
 use Rattle.std.specs.List.{AllByRecursion as All}
-use Rattle.std.proofs.lemmas.List.{length-append, length-map, get_or-map, get_or_past, get_or-take, length-take}
-use Rattle.std.proofs.lemmas.Bool.{false≢true, and_parts, and_from, or_cases, or_left, cases_lt, cond_both, leb-true, le-leb}
-use Rattle.cnf.specs.declared.literal.Literal.{Literal}
-use Rattle.cnf.specs.Tabled.{numbers_of}
+use Rattle.std.proofs.lemmas.List.{length-append, length-map, get_or-map}
+use Rattle.std.proofs.lemmas.Bool.{false≢true, and_parts, and_from, or_cases, or_left, cases_lt, leb-true, le-leb}
 use Rattle.cnf.specs.Formula.{Clause, Assignment, variable_of, literal_true, all_true, Model, Lawful, fresh_literal, all_proper}
 use Rattle.cnf.specs.Told.{told_clauses, clause_at, literal_at}
 use Rattle.layers.specs.Fixed.{units_of, fixed_listing, NamesVariable, FixMeans}

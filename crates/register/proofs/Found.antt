@@ -1,8 +1,8 @@
 -- The search for a key among the first slots.
-use Rattle.std.proofs.Common.{◌≡◌, ℕ, ◌+◌, ◌<◌, ◌≤◌, Bool, true, false, ◌||◌, eqb, List, length, get_or, take, drop, Ok, Err, sym, refl, ap, ◌∙◌, arith}
+use Rattle.std.proofs.Common.{◌≡◌, ℕ, ◌+◌, ◌<◌, ◌≤◌, Bool, true, false, ◌||◌, eqb, List, length, get_or, take, drop, Ok, Err, refl, ap, ◌∙◌, arith}
 use Rattle.std.proofs.lemmas.List.{at_drop_more, at_drop_all, length-take-le, get_or-take}
 use Rattle.std.proofs.lemmas.Bool.{eq-eqb, ne_eqb, or_left}
-use Rattle.register.specs.declared.register.Refusal.TheVariants.{Present, Full}
+use Rattle.register.specs.declared.register.Refusal.TheVariants.{Full}
 use Rattle.register.specs.Keys.{has_key, insert_answer}
 
 module _ {X : Type 0} (key_of : X → ℕ) (k : ℕ) (ss : List X) (n : ℕ) (le : n ≤ length ss) where

@@ -1,9 +1,9 @@
 -- The search for a key among the first slots.
-use Rattle.std.proofs.Common.{◌≡◌, ℕ, ◌+◌, ◌<◌, ◌≤◌, Bool, true, false, ◌||◌, eqb, List, length, get_or, take, drop, Ok, Err, sym, refl, ap, ◌∙◌, arith}
+use Rattle.std.proofs.Common.{◌≡◌, ℕ, ◌+◌, ◌<◌, ◌≤◌, Bool, true, false, ◌||◌, List, length, get_or, take, drop, Ok, Err, refl, ap, ◌∙◌, arith}
 use Rattle.std.proofs.lemmas.List.{at_drop_more, at_drop_all, length-take-le, get_or-take}
 use Rattle.std.proofs.lemmas.Bool.{eq-eqb, ne_eqb, or_left}
 use Rattle.roster.specs.declared.key.Key.{Key}
-use Rattle.roster.specs.declared.refusal.Refusal.TheVariants.{Present, Full}
+use Rattle.roster.specs.declared.refusal.Refusal.TheVariants.{Full}
 use Rattle.roster.specs.Keys.{same_key, has_key}
 use Rattle.roster.specs.Held.{insert_answer}
 

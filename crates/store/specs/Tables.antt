@@ -1,5 +1,5 @@
 -- A store's meaning: a table from ids to clauses, kept with the ids ascending, so that tables that hold the same are equal.
-use Rattle.std.specs.Prelude.{◌≡◌, ℕ, suc, ◌+◌, ◌-◌, ◌/◌, ◌≤◌, max, Bool, true, false, cond, not, List, [], ◌∷◌, ◌++◌, length, take, drop, ℤ, pos, Some, None, Ok, Err, Option, ◌==◌, nat_le, nat_lt, slice_index_or}
+use Rattle.std.specs.Prelude.{ℕ, suc, ◌+◌, ◌-◌, ◌/◌, ◌≤◌, max, Bool, true, false, cond, not, List, [], ◌∷◌, ◌++◌, length, take, drop, ℤ, pos, Some, None, Ok, Err, Option, ◌==◌, nat_le, nat_lt, slice_index_or}
 use Rattle.cnf.specs.declared.fault.Fault.TheVariants.{IdHeld, TooLong, NoRoom, NotHeld}
 use Rattle.cnf.specs.Formula.{Clause}
 use Rattle.cnf.specs.Faults.{Answer, ◌then◌, check_for}

@@ -1,10 +1,9 @@
 -- The numbers first, then one clause a turn.
-use Rattle.std.proofs.Common.{◌≡◌, ◌+◌, ◌<◌, [], length, get_or, Err, sym, refl, ap, ◌∙◌, arith, rules}
+use Rattle.std.proofs.Common.{◌≡◌, ◌+◌, [], Err, sym, refl, ap, ◌∙◌, arith, rules}
 use Rattle.std.proofs.lemmas.List.{at_drop_all}
 use Rattle.cnf.specs.declared.fault.Fault.TheVariants.{Unlawful}
 use Rattle.cnf.specs.Formula.{proper_clause}
 use Rattle.cnf.specs.Faults.{Answer}
-use Rattle.cnf.specs.Told.{clause_at}
 use Rattle.cnf.specs.Checks.{clauses_lawful, lawful_answer}
 use Rattle.cnf.proofs.Asked.{clause_next}
 use Rattle.cnf.proofs.Firsts.{each_stops, each_goes}

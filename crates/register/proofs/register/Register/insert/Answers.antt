@@ -1,4 +1,4 @@
-use Rattle.std.proofs.Common.{◌≡◌, length, take, sym, ap, ◌∙◌, arith, rules}
+use Rattle.std.proofs.Common.{length, take, sym, ap, ◌∙◌, rules}
 use Rattle.register.specs.Keys.{has_key, insert_answer}
 use Rattle.register.proofs.Found.{here, later, nowhere, is_full, is_taken}
 use Rattle.register.proofs.register.Register.insert.Goals as goal

@@ -1,4 +1,4 @@
-use Rattle.std.proofs.Common.{◌≡◌, true, false, sym, refl, ap, ◌∙◌}
+use Rattle.std.proofs.Common.{sym, refl, ap, ◌∙◌}
 use Rattle.roster.specs.Keys.{same_key}
 use Rattle.roster.proofs.Found.{here, later, nowhere}
 use Rattle.roster.proofs.register.Register.contains.Goals as goal

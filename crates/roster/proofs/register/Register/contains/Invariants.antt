@@ -1,4 +1,4 @@
-use Rattle.std.proofs.Common.{◌≡◌, ◌≤◌, drop}
+use Rattle.std.proofs.Common.{◌≡◌, drop}
 use Rattle.roster.specs.Keys.{has_key}
 use Rattle.roster.specs.Held.{records_in}
 use Rattle.roster.proofs.register.Register.contains.Given as goal

@@ -1,4 +1,4 @@
-use Rattle.std.proofs.Common.{◌≡◌, sym}
+use Rattle.std.proofs.Common.{sym}
 use Rattle.std.proofs.lemmas.List.{length-take-le}
 use Rattle.roster.proofs.Blanks.{laid}
 use Rattle.roster.proofs.register.Register.len.Goals as goal

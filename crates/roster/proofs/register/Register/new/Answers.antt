@@ -1,4 +1,4 @@
-use Rattle.std.proofs.Common.{◌≡◌, ◌<◌, length, replicate, refl, ap, ◌∙◌, arith}
+use Rattle.std.proofs.Common.{length, replicate, refl, ap, ◌∙◌, arith}
 use Rattle.roster.proofs.Blanks.{blank_more, blank_all, blank_rest}
 use Rattle.roster.proofs.register.Register.new.Goals as goal
 

@@ -1,6 +1,6 @@
 -- What an accepted check says; the check of a source accepts just the lawful ones.
 use Rattle.std.proofs.Common.{◌≡◌, ℕ, ◌≤◌, Bool, true, false, ◌&&◌, leb, ◌↔◌, List, [], ◌∷◌, length, Ok, Err, sym, refl, ap, ◌∙◌, arith}
-use Rattle.std.specs.List.{AllByRecursion as All}
+use Rattle.std.specs.List.{AllByRecursion}
 use Rattle.std.proofs.lemmas.Bool.{and_parts, and_from, leb-true, le-leb}
 use Rattle.cnf.specs.declared.fault.Fault.{Fault}
 use Rattle.cnf.specs.declared.fault.Fault.TheVariants.{Unlawful}
@@ -29,7 +29,7 @@ pub passed_then : (b : Bool) (f : Fault) (a : Answer) → b ≡ true → (check_
 passed_then b f a e = ap (λ t. check_for t f then a) e
 
 -- every clause is proper, as a test of all and of each
-all_proper_each : (n : ℕ) (cs : List Clause) → (all_proper n cs ≡ true) ↔ All (λ c. proper_clause n c ≡ true) cs
+all_proper_each : (n : ℕ) (cs : List Clause) → (all_proper n cs ≡ true) ↔ AllByRecursion (λ c. proper_clause n c ≡ true) cs
 all_proper_each n [] = (λ _. tt, λ _. refl)
 all_proper_each n (c ∷ cs) =
     let ih = all_proper_each n cs in (
@@ -71,7 +71,7 @@ lawful_accepted n cs =
           clauses_decide n cs l.some_variable l.few_variables l.few_clauses ∙ each.1 ((all_proper_each n cs).0 l.clauses_proper),
     )
 
-worded : (n : ℕ) (cs : List Clause) → all_proper n cs ≡ true → All (Within n) cs × All Distinct cs
+worded : (n : ℕ) (cs : List Clause) → all_proper n cs ≡ true → AllByRecursion (Within n) cs × AllByRecursion Distinct cs
 worded n [] h = (tt, tt)
 worded n (c ∷ cs) h =
     let w = and_parts (proper_clause n c) (all_proper n cs) h in
@@ -79,7 +79,7 @@ worded n (c ∷ cs) h =
     let r = worded n cs w.1 in
     ((p.0, r.0), (p.1, r.1))
 
-of_worded : (n : ℕ) (cs : List Clause) → All (Within n) cs → All Distinct cs → all_proper n cs ≡ true
+of_worded : (n : ℕ) (cs : List Clause) → AllByRecursion (Within n) cs → AllByRecursion Distinct cs → all_proper n cs ≡ true
 of_worded n [] w d = refl
 of_worded n (c ∷ cs) w d =
     and_from (proper_clause n c) (all_proper n cs) ((properly n c).1 (w.0, d.0)) (of_worded n cs w.1 d.1)

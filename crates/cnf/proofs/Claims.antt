@@ -1,6 +1,6 @@
 -- The checks of a claim, one after another.
 use Rattle.std.proofs.Common.{◌≡◌, ℕ, true, ◌&&◌, eqb, leb, ◌⊎◌, ◌↔◌, List, [], ◌∷◌, length, Err, sym, refl, ap, ◌∙◌, inl, inr, ⊎_elim}
-use Rattle.std.specs.List.{AllByRecursion as All}
+use Rattle.std.specs.List.{AllByRecursion}
 use Rattle.std.proofs.lemmas.List.{length-map}
 use Rattle.std.proofs.lemmas.Bool.{and_parts, and_from, or_cases, or_left, or_right, eqb-true, eq-eqb}
 use Rattle.cnf.specs.declared.fault.Fault.{Fault}
@@ -15,7 +15,7 @@ use Rattle.cnf.proofs.Short.{told_lawful_listing}
 use Rattle.cnf.proofs.Accepting.{then_parts, then_from, check_passed, lawful_accepted}
 
 -- every clause is true, as a test of all and of each
-all_true_each : (a : Assignment) (cs : List Clause) → (all_true a cs ≡ true) ↔ All (λ c. clause_true a c ≡ true) cs
+all_true_each : (a : Assignment) (cs : List Clause) → (all_true a cs ≡ true) ↔ AllByRecursion (λ c. clause_true a c ≡ true) cs
 all_true_each a [] = (λ _. tt, λ _. refl)
 all_true_each a (c ∷ cs) =
     let ih = all_true_each a cs in (
@@ -23,7 +23,7 @@ all_true_each a (c ∷ cs) =
       λ h. and_from (clause_true a c) (all_true a cs) h.0 (ih.1 h.1),
     )
 
-bits_each : (bs : List ℕ) → All (λ b. is_bit b ≡ true) bs ↔ All (λ b. (b ≡ 0) ⊎ (b ≡ 1)) bs
+bits_each : (bs : List ℕ) → AllByRecursion (λ b. is_bit b ≡ true) bs ↔ AllByRecursion (λ b. (b ≡ 0) ⊎ (b ≡ 1)) bs
 bits_each [] = (λ _. tt, λ _. tt)
 bits_each (b ∷ bs) =
     let ih = bits_each bs in (

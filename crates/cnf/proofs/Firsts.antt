@@ -1,6 +1,6 @@
 -- A test of one element after another: a loop's turn, and what the answer tells.
 use Rattle.std.proofs.Common.{◌≡◌, ℕ, suc, ◌+◌, ◌<◌, Bool, true, false, List, [], ◌∷◌, ◌++◌, length, get_or, drop, Err, sym, refl, ap, ◌∙◌, subst, arith}
-use Rattle.std.specs.List.{AllByRecursion as All}
+use Rattle.std.specs.List.{AllByRecursion}
 use Rattle.std.proofs.lemmas.List.{at_drop_more}
 use Rattle.cnf.specs.declared.fault.Fault.{Fault}
 use Rattle.cnf.specs.Faults.{Answer, accepted, ◌then◌, check_for}
@@ -23,20 +23,20 @@ module _ {X : Type 0} (test : X → Bool) (fault : ℕ → Fault) where
         let s : suc (i + 1) ≡ i + 1 + 1 = omega arith in
         by_test true e ∙ ap (λ p. each_passes test fault p (drop (i + 1) xs)) s
 
-  all_from : (p : ℕ) (xs : List X) → All (λ x. test x ≡ true) xs → each_passes test fault p xs ≡ accepted
+  all_from : (p : ℕ) (xs : List X) → AllByRecursion (λ x. test x ≡ true) xs → each_passes test fault p xs ≡ accepted
   all_from p [] h = refl
   all_from p (x ∷ xs) h =
       ap (λ b. check_for b (fault p) then each_passes test fault (suc p) xs) h.0 ∙ all_from (suc p) xs h.1
 
-  all_since : (p : ℕ) (xs : List X) → each_passes test fault p xs ≡ accepted → All (λ x. test x ≡ true) xs
+  all_since : (p : ℕ) (xs : List X) → each_passes test fault p xs ≡ accepted → AllByRecursion (λ x. test x ≡ true) xs
   all_since p [] e = tt
   all_since p (x ∷ xs) e = go (all_since (suc p) xs) (test x) refl e
     where
-      go : (each_passes test fault (suc p) xs ≡ accepted → All (λ y. test y ≡ true) xs) → (b : Bool) → test x ≡ b → (check_for b (fault p) then each_passes test fault (suc p) xs) ≡ accepted → (test x ≡ true) × All (λ y. test y ≡ true) xs
+      go : (each_passes test fault (suc p) xs ≡ accepted → AllByRecursion (λ y. test y ≡ true) xs) → (b : Bool) → test x ≡ b → (check_for b (fault p) then each_passes test fault (suc p) xs) ≡ accepted → (test x ≡ true) × AllByRecursion (λ y. test y ≡ true) xs
       go ih true t e = (t, ih e)
       go ih false t e = let z : ◌≡◌ {A = ℕ} 0 1 = cc in absurd (omega arith)
 
-  passed_over : (p : ℕ) (ys : List X) (x : X) (zs : List X) → All (λ y. test y ≡ true) ys → test x ≡ false → each_passes test fault p (ys ++ x ∷ zs) ≡ Err (fault (length ys + p))
+  passed_over : (p : ℕ) (ys : List X) (x : X) (zs : List X) → AllByRecursion (λ y. test y ≡ true) ys → test x ≡ false → each_passes test fault p (ys ++ x ∷ zs) ≡ Err (fault (length ys + p))
   passed_over p [] x zs h e =
       let s : p ≡ 0 + p = omega arith in
       ap (λ b. check_for b (fault p) then each_passes test fault (suc p) zs) e ∙ ap (λ q. Err (fault q)) s

@@ -1,6 +1,6 @@
 -- What a lawful source is, in words: where the variables of its clauses lie, and that no clause names one twice.
 use Rattle.std.specs.Prelude.{ℕ, ◌≤◌, ◌≢◌, List, [], ◌∷◌, length}
-use Rattle.std.specs.List.{AllByRecursion as All}
+use Rattle.std.specs.List.{AllByRecursion}
 use Rattle.cnf.specs.Formula.{Clause, variable_of}
 
 -- every literal of a clause names a variable from 1 to n
@@ -23,5 +23,5 @@ pub record LawfulWords (n : ℕ) (cs : List Clause) : Type 0 where
   pub some_variable : 1 ≤ n
   pub few_variables : n ≤ 1024
   pub few_clauses : length cs ≤ 65535
-  pub clauses_within : All (Within n) cs
-  pub clauses_distinct : All Distinct cs
+  pub clauses_within : AllByRecursion (Within n) cs
+  pub clauses_distinct : AllByRecursion Distinct cs

@@ -1,6 +1,6 @@
 -- What is found among the records of a drawn board: of a cell, what is drawn there.
 use Rattle.std.proofs.Common.{◌≡◌, ℕ, zero, suc, ◌+◌, ◌-◌, ◌*◌, ◌<◌, ◌≤◌, min, max, Bool, true, false, cond, ◌&&◌, ◌||◌, eqb, List, [], ◌∷◌, ◌++◌, map, get_or, sym, refl, ap, ◌∙◌, ⊎_elim, arith}
-use Rattle.std.specs.List.{range_with_len, flat_map, AllByRecursion as All}
+use Rattle.std.specs.List.{range_with_len, flat_map, AllByRecursion}
 use Rattle.std.proofs.ByRecursion.{All-weaker}
 use Rattle.std.proofs.lemmas.Bool.{cases_eq, cases_Bool, eq-eqb, ne_eqb, eqb-true, cond-true, cond-false, and_left, and_right, or_from}
 use Rattle.futoshiki.specs.declared.sign.Sign.{Sign}
@@ -16,7 +16,7 @@ module _ {A : Type 0} (test : A → Bool) where
   any_append [] ys = refl
   any_append (x ∷ xs) ys = elim (test x) as (λ t. (t || any_of test (xs ++ ys)) ≡ (t || any_of test xs || any_of test ys)) [ true ↦ refl | false ↦ any_append xs ys ]
 
-  none_of : (xs : List A) → All (λ x. test x ≡ false) xs → any_of test xs ≡ false
+  none_of : (xs : List A) → AllByRecursion (λ x. test x ≡ false) xs → any_of test xs ≡ false
   none_of [] h = refl
   none_of (x ∷ xs) h = or_from (test x) (any_of test xs) h.0 (none_of xs h.1)
 

@@ -1,6 +1,6 @@
 -- The text of a sound puzzle is well drawn.
 use Rattle.std.proofs.Common.{◌≡◌, ℕ, ◌+◌, ◌-◌, ◌*◌, ◌/◌, ◌%◌, ◌<◌, ◌≤◌, Bool, true, false, cond, ◌&&◌, ◌||◌, eqb, ltb, leb, List, [], ◌∷◌, map, get_or, sym, refl, ap, ◌∙◌, subst, ⊎_elim, arith}
-use Rattle.std.specs.List.{range_with_len, AllByRecursion as All}
+use Rattle.std.specs.List.{range_with_len, AllByRecursion}
 use Rattle.std.proofs.lemmas.Nat.{div-mul-add, mod-mul-add, mul-add-lt, div_below, mod_below, div-add-mod'}
 use Rattle.std.proofs.lemmas.List.FromFn.{length-map-range_with_len, get_or-map-range_with_len}
 use Rattle.std.proofs.lemmas.Bool.{cases_eq, cases_Bool, eq-eqb, eqb-false, le-leb, cond-true, cond-false, and_from, or_left, or_right}
@@ -18,7 +18,7 @@ use Rattle.drawing.proofs.Redrawing.{feed_at, frame_at, row_at, whole_text}
 use Rattle.drawing.proofs.Returning.{drawn_again}
 
 -- a cell that is claimed has a value of the board
-claim_on : (N i : ℕ) (es : List Entry) → All (EntryOn N) es → Any (λ e. e.cell ≡ i) es → InRange N (claim_at es i)
+claim_on : (N i : ℕ) (es : List Entry) → AllByRecursion (EntryOn N) es → Any (λ e. e.cell ≡ i) es → InRange N (claim_at es i)
 unfolding claim_at
 claim_on N i [] on any = absurd any
 claim_on N i (e ∷ es) on any =

@@ -1,6 +1,6 @@
 -- The signs of a drawn board: on the board, between cells that share a side, no pair of cells twice, two to a cell at most.
 use Rattle.std.proofs.Common.{◌≡◌, ℕ, ◌+◌, ◌-◌, ◌*◌, ◌/◌, ◌%◌, ◌<◌, ◌≤◌, min, max, true, false, cond, eqb, ◌⊎◌, List, [], ◌∷◌, length, sym, refl, ap, subst, inl, inr, ⊎_elim, add-mul, arith}
-use Rattle.std.specs.List.{AllByRecursion as All}
+use Rattle.std.specs.List.{AllByRecursion}
 use Rattle.std.proofs.lemmas.Nat.{mul-add-lt, div-add-mod'}
 use Rattle.std.proofs.ByRecursion.{All-append, All-weaker}
 use Rattle.std.proofs.lemmas.List.{length-append}
@@ -15,17 +15,17 @@ use Rattle.drawing.proofs.Registering.{once_append, once_short}
 use Rattle.drawing.proofs.Spots.{row_below, column_below, right_inside, below_inside}
 
 -- what holds of a sign that a byte draws
-all_sign : (P : Sign → Type 0) (b x y i j : ℕ) → (((b ≡ x) ⊎ (b ≡ y)) → P (record { lesser = i; greater = j }) × P (record { lesser = j; greater = i })) → All P (sign_drawn b x y i j)
+all_sign : (P : Sign → Type 0) (b x y i j : ℕ) → (((b ≡ x) ⊎ (b ≡ y)) → P (record { lesser = i; greater = j }) × P (record { lesser = j; greater = i })) → AllByRecursion P (sign_drawn b x y i j)
 all_sign P b x y i j h =
     let less : Sign = record { lesser = i; greater = j } in
     let more : Sign = record { lesser = j; greater = i } in
     ⊎_elim
-    (λ (t : eqb b x ≡ true). subst (All P) (sym (cond-true (eqb b x) (less ∷ []) (cond (eqb b y) (more ∷ []) []) t)) ((h (inl (eqb-true b x t))).0, tt))
+    (λ (t : eqb b x ≡ true). subst (AllByRecursion P) (sym (cond-true (eqb b x) (less ∷ []) (cond (eqb b y) (more ∷ []) []) t)) ((h (inl (eqb-true b x t))).0, tt))
     (λ (f : eqb b x ≡ false).
-    subst (All P) (sym (cond-false (eqb b x) (less ∷ []) (cond (eqb b y) (more ∷ []) []) f))
+    subst (AllByRecursion P) (sym (cond-false (eqb b x) (less ∷ []) (cond (eqb b y) (more ∷ []) []) f))
     (⊎_elim
-    (λ (t : eqb b y ≡ true). subst (All P) (sym (cond-true (eqb b y) (more ∷ []) [] t)) ((h (inr (eqb-true b y t))).1, tt))
-    (λ (g : eqb b y ≡ false). subst (All P) (sym (cond-false (eqb b y) (more ∷ []) [] g)) tt)
+    (λ (t : eqb b y ≡ true). subst (AllByRecursion P) (sym (cond-true (eqb b y) (more ∷ []) [] t)) ((h (inr (eqb-true b y t))).1, tt))
+    (λ (g : eqb b y ≡ false). subst (AllByRecursion P) (sym (cond-false (eqb b y) (more ∷ []) [] g)) tt)
     (cases_Bool (eqb b y))))
     (cases_Bool (eqb b x))
 
@@ -134,23 +134,23 @@ module _ (N : ℕ) (bytes : List ℕ) (drawn : WellDrawn N bytes) (i : ℕ) (on 
         },
       )
 
-  right_sound : All (SoundSign N i (i + 1)) (sign_right N bytes i)
+  right_sound : AllByRecursion (SoundSign N i (i + 1)) (sign_right N bytes i)
   right_sound =
       all_sign (SoundSign N i (i + 1)) (byte_right N bytes i) 60 62 i (i + 1)
       (λ s. let w = beside_right (right_inside N bytes drawn i on s) in both_orders N i (i + 1) (omega arith) on (omega arith, w.0) w.1)
 
-  below_sound : All (SoundSign N i (i + N)) (sign_below N bytes i)
+  below_sound : AllByRecursion (SoundSign N i (i + N)) (sign_below N bytes i)
   below_sound =
       all_sign (SoundSign N i (i + N)) (byte_below N bytes i) 94 118 i (i + N)
       (λ s. let w = beside_below (below_inside N bytes drawn i on s) in let n = many in both_orders N i (i + N) (omega arith) on (omega arith, w.0) w.1)
 
-  pub right_between : All (Between i (i + 1)) (sign_right N bytes i)
+  pub right_between : AllByRecursion (Between i (i + 1)) (sign_right N bytes i)
   right_between = All-weaker (SoundSign N i (i + 1)) (Between i (i + 1)) (λ s h. h.0) (sign_right N bytes i) right_sound
 
-  pub below_between : All (Between i (i + N)) (sign_below N bytes i)
+  pub below_between : AllByRecursion (Between i (i + N)) (sign_below N bytes i)
   below_between = All-weaker (SoundSign N i (i + N)) (Between i (i + N)) (λ s h. h.0) (sign_below N bytes i) below_sound
 
-  pub signs_sound : All (SignOf N i) (drawn_signs N bytes i)
+  pub signs_sound : AllByRecursion (SignOf N i) (drawn_signs N bytes i)
   unfolding drawn_signs
   signs_sound =
       All-append (SignOf N i) (sign_right N bytes i) (sign_below N bytes i)
@@ -164,7 +164,7 @@ module _ (N : ℕ) (bytes : List ℕ) (drawn : WellDrawn N bytes) (i : ℕ) (on 
       once_append SamePair (sign_right N bytes i) (sign_below N bytes i)
       (once_short SamePair (sign_right N bytes i) (few_signs (byte_right N bytes i) 60 62 i (i + 1)))
       (once_short SamePair (sign_below N bytes i) (few_signs (byte_below N bytes i) 94 118 i (i + N)))
-      (All-weaker (SoundSign N i (i + 1)) (λ x. All (λ y. SamePair x y → ⊥) (sign_below N bytes i))
+      (All-weaker (SoundSign N i (i + 1)) (λ x. AllByRecursion (λ y. SamePair x y → ⊥) (sign_below N bytes i))
       (λ x hx. All-weaker (SoundSign N i (i + N)) (λ y. SamePair x y → ⊥)
       (λ y hy s. let e = (same_cells x y s).1 in let p = hx.0.1 in let q = hy.0.1 in let n = many in omega arith)
       (sign_below N bytes i) below_sound)

@@ -1,6 +1,6 @@
 -- The puzzle that a well-drawn text draws is accepted from its words.
 use Rattle.std.proofs.Common.{◌≡◌, ℕ, ◌*◌, ◌≤◌, true, false, cond, eqb, List, [], ◌∷◌, ◌++◌, map, length, sym, refl, ap, ◌∙◌, subst, arith}
-use Rattle.std.specs.List.{flat_map, AllByRecursion as All}
+use Rattle.std.specs.List.{flat_map, AllByRecursion}
 use Rattle.std.proofs.lemmas.Nat.{mul-le}
 use Rattle.std.proofs.lemmas.List.FromFn.{length-map-range_with_len}
 use Rattle.std.proofs.ByRecursion.{All-append, All-map, All-weaker}
@@ -73,20 +73,20 @@ items_give P =
     let with_signs : List Sign → Puzzle = λ l. record { size = P.size; givens = givens_of (map Given g ++ rest); claims = claims_of (map Given g ++ rest); signs = l } in
     ap with_givens (sym eg) ∙ ap with_claims (sym ec) ∙ ap with_signs (sym es)
 
-every : {A : Type 0} (xs : List A) → All (λ _. Unit {0}) xs
+every : {A : Type 0} (xs : List A) → AllByRecursion (λ _. Unit {0}) xs
 every [] = tt
 every (x ∷ xs) = (tt, every xs)
 
-all_records : (P : Puzzle) → All IsRecord (puzzle_items P)
+all_records : (P : Puzzle) → AllByRecursion IsRecord (puzzle_items P)
 all_records P =
     All-append IsRecord (map Given P.givens) (map Less P.signs ++ map Claim P.claims) (All-map IsRecord Given P.givens (every P.givens))
     (All-append IsRecord (map Less P.signs) (map Claim P.claims) (All-map IsRecord Less P.signs (every P.signs)) (All-map IsRecord Claim P.claims (every P.claims)))
 
 -- a given is the cell's entry, and none stands twice in a cell
 module _ (N : ℕ) (bytes : List ℕ) (i : ℕ) where
-  all_given : (Q : Entry → Type 0) → Q (drawn_entry N bytes i) → All Q (drawn_given N bytes i)
+  all_given : (Q : Entry → Type 0) → Q (drawn_entry N bytes i) → AllByRecursion Q (drawn_given N bytes i)
   unfolding drawn_given
-  all_given Q h = elim (eqb (byte_before N bytes i) 91) as (λ t. All Q (cond t (drawn_entry N bytes i ∷ []) [])) [ true ↦ (h, tt) | false ↦ tt ]
+  all_given Q h = elim (eqb (byte_before N bytes i) 91) as (λ t. AllByRecursion Q (cond t (drawn_entry N bytes i ∷ []) [])) [ true ↦ (h, tt) | false ↦ tt ]
 
   few_givens : length (drawn_given N bytes i) ≤ 1
   unfolding drawn_given
@@ -105,13 +105,13 @@ module _ (N : ℕ) (bytes : List ℕ) (drawn : WellDrawn N bytes) where
   entry_on i on = let d = digit_drawn N bytes drawn i on in (on, (omega arith, omega arith))
 
   -- what holds of every cell of the board holds along its cells
-  along : (Q : ℕ → Type 0) → ((i : ℕ) → InRange (N * N) i → Q i) → All Q cells
+  along : (Q : ℕ → Type 0) → ((i : ℕ) → InRange (N * N) i → Q i) → AllByRecursion Q cells
   along Q h = all_counting Q 1 (N * N) (λ i p q. h i (p, omega arith))
 
-  givens_on : All (EntryOn N) (flat_map (drawn_given N bytes) cells)
-  givens_on = all_joined (EntryOn N) (drawn_given N bytes) cells (along (λ i. All (EntryOn N) (drawn_given N bytes i)) (λ i on. all_given N bytes i (EntryOn N) (entry_on i on)))
+  givens_on : AllByRecursion (EntryOn N) (flat_map (drawn_given N bytes) cells)
+  givens_on = all_joined (EntryOn N) (drawn_given N bytes) cells (along (λ i. AllByRecursion (EntryOn N) (drawn_given N bytes i)) (λ i on. all_given N bytes i (EntryOn N) (entry_on i on)))
 
-  claims_on : All (EntryOn N) (map (drawn_entry N bytes) cells)
+  claims_on : AllByRecursion (EntryOn N) (map (drawn_entry N bytes) cells)
   claims_on = All-map (EntryOn N) (drawn_entry N bytes) cells (along (λ i. EntryOn N (drawn_entry N bytes i)) entry_on)
 
   abbrev EntryOf : ℕ → Entry → Type 0
@@ -131,9 +131,9 @@ module _ (N : ℕ) (bytes : List ℕ) (drawn : WellDrawn N bytes) where
       subst (Once SameCell) (map_joined (drawn_entry N bytes) 1 (N * N))
       (once_joined SameCell EntryOf same_cell (λ i. drawn_entry N bytes i ∷ []) 1 (N * N) (λ i _ _. (cell_drawn N bytes i, tt)) (λ i _ _. (tt, tt)))
 
-  signs_all : (Q : Sign → Type 0) → ((i : ℕ) (s : Sign) → SignOf N i s → Q s) → All Q (flat_map (drawn_signs N bytes) cells)
+  signs_all : (Q : Sign → Type 0) → ((i : ℕ) (s : Sign) → SignOf N i s → Q s) → AllByRecursion Q (flat_map (drawn_signs N bytes) cells)
   signs_all Q h =
-      all_joined Q (drawn_signs N bytes) cells (along (λ i. All Q (drawn_signs N bytes i)) (λ i on. All-weaker (SignOf N i) Q (h i) (drawn_signs N bytes i) (signs_sound N bytes drawn i on)))
+      all_joined Q (drawn_signs N bytes) cells (along (λ i. AllByRecursion Q (drawn_signs N bytes i)) (λ i on. All-weaker (SignOf N i) Q (h i) (drawn_signs N bytes i) (signs_sound N bytes drawn i on)))
 
   signs_once : Once SamePair (flat_map (drawn_signs N bytes) cells)
   signs_once =

@@ -1,6 +1,6 @@
 -- Each model of the listing is the assignment of a filling that keeps the rules.
 use Rattle.std.proofs.Common.{◌≡◌, ℕ, zero, suc, ◌+◌, ◌-◌, ◌*◌, ◌<◌, ◌≤◌, Bool, true, false, cond, eqb, List, map, length, get_or, sym, refl, ap, ◌∙◌, ⊎_elim, arith}
-use Rattle.std.specs.List.{AllByRecursion as All}
+use Rattle.std.specs.List.{AllByRecursion}
 use Rattle.std.proofs.ByRecursion.{All-map}
 use Rattle.std.proofs.lemmas.List.{ext_get_or}
 use Rattle.std.proofs.lemmas.List.FromFn.{length-map-range_with_len, get_or-map-range_with_len}
@@ -111,7 +111,7 @@ module _ (N : ℕ) (signs : List Sign) (a : Assignment) (view : View a N signs) 
   exactly_one : (g : ℕ → ℕ) → Injects g N N → (v : ℕ) → InRange N v → ExactlyOne N (λ k. g k ≡ v)
   exactly_one g i v w = let t = onto N g i v w in (t.0, t.1, t.2, λ j wj e. i.apart j t.0 wj t.1 (e ∙ sym t.2))
 
-  keeps : All (OnBoard N) signs → Keeps N signs f
+  keeps : AllByRecursion (OnBoard N) signs → Keeps N signs f
   keeps on = record {
     rows_whole = λ r v wr wv. exactly_one (λ c. held_value f (cell_at N r c)) (row_injects r wr) v wv;
     columns_whole = λ c v wc wv. exactly_one (λ r. held_value f (cell_at N r c)) (column_injects c wc) v wv;
@@ -140,7 +140,7 @@ module _ (N : ℕ) (signs : List Sign) (a : Assignment) (view : View a N signs) 
           ∙ value_placed a (variable_at N t.0 t.1) (omega arith)
           ∙ ap (λ m. get_or a m false) (omega arith)
 
-pub complete : (N : ℕ) (signs : List Sign) → 1 ≤ N → All (OnBoard N) signs → (a : Assignment) → Model (N * N * N) (five_groups N signs) a → (f : List ℕ) × Filling N f × Keeps N signs f × (filling_assignment N f ≡ a)
+pub complete : (N : ℕ) (signs : List Sign) → 1 ≤ N → AllByRecursion (OnBoard N) signs → (a : Assignment) → Model (N * N * N) (five_groups N signs) a → (f : List ℕ) × Filling N f × Keeps N signs f × (filling_assignment N f ≡ a)
 complete N signs p on a m =
     let view = view_from_satisfies a N signs m.holds in
     (filling_of N a, filling N signs a view, keeps N signs a view on, assignment_is N signs a view p m.total)

@@ -1,6 +1,6 @@
 -- Each clause of the listing names variables of the board, and none twice.
 use Rattle.std.proofs.Common.{◌≡◌, ℕ, zero, suc, ◌+◌, ◌*◌, ◌<◌, ◌≤◌, true, ◌≢◌, List, [], ◌∷◌, map, pos, neg_ℤ, sym, refl, arith}
-use Rattle.std.specs.List.{AllByRecursion as All, range_with_len}
+use Rattle.std.specs.List.{AllByRecursion, range_with_len}
 use Rattle.std.proofs.lemmas.Bool.{and_from}
 use Rattle.cnf.specs.Formula.{Clause, variable_of, proper_clause, all_proper}
 use Rattle.cnf.specs.Words.{Within, Apart, Distinct}
@@ -46,11 +46,11 @@ distinct_one_of g b zero h = tt
 distinct_one_of g b (suc m) h =
     (apart_one_of (g b) g (b + 1) m (λ k p q. h b k (omega arith) (omega arith) (omega arith)), distinct_one_of g (b + 1) m (λ j k p q r. h j k (omega arith) q (omega arith)))
 
-all_proper_from : (n : ℕ) (cs : List Clause) → All (Proper n) cs → all_proper n cs ≡ true
+all_proper_from : (n : ℕ) (cs : List Clause) → AllByRecursion (Proper n) cs → all_proper n cs ≡ true
 all_proper_from n [] h = refl
 all_proper_from n (c ∷ cs) h = and_from (proper_clause n c) (all_proper n cs) h.0 (all_proper_from n cs h.1)
 
-module _ (N : ℕ) (signs : List Sign) (on : All (OnBoard N) signs) (differ : All (λ s. s.lesser ≢ s.greater) signs) where
+module _ (N : ℕ) (signs : List Sign) (on : AllByRecursion (OnBoard N) signs) (differ : AllByRecursion (λ s. s.lesser ≢ s.greater) signs) where
   in_board : (i v : ℕ) → InRange (N * N) i → InRange N v → InRange (N * N * N) (variable_at N i v)
   in_board i v wi wv = within (N * N) N i v wi wv
 

@@ -1,6 +1,6 @@
 -- A filling that keeps the rules gives a model.
 use Rattle.std.proofs.Common.{◌≡◌, ℕ, ◌-◌, ◌*◌, ◌<◌, true, List, sym, refl, ap, ◌∙◌, arith}
-use Rattle.std.specs.List.{AllByRecursion as All}
+use Rattle.std.specs.List.{AllByRecursion}
 use Rattle.std.proofs.ByRecursion.{All-get_or}
 use Rattle.std.proofs.lemmas.Bool.{eqb-true, eq-eqb}
 use Rattle.cnf.specs.Formula.{value_of, Model}
@@ -22,7 +22,7 @@ module _ (N : ℕ) (f : List ℕ) (fill : Filling N f) where
   pub held_from : (i v : ℕ) → InRange (N * N) i → InRange N v → value_of (filling_assignment N f) (variable_at N i v) ≡ true → held_value f i ≡ v
   held_from i v wi wv h = eqb-true (held_value f i) v (sym (value_assignment N f i v wi.0 (omega arith) wv) ∙ h)
 
-  module _ (signs : List Sign) (on : All (OnBoard N) signs) (keeps : Keeps N signs f) where
+  module _ (signs : List Sign) (on : AllByRecursion (OnBoard N) signs) (keeps : Keeps N signs f) where
     view : View (filling_assignment N f) N signs
     view = record {
       some = λ i wi.

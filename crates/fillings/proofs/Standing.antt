@@ -1,6 +1,6 @@
 -- What holds of every board: its models and its law where it keeps the rules, and that it lists nothing where it does not.
 use Rattle.std.proofs.Common.{◌≡◌, ℕ, ◌*◌, ◌≤◌, Bool, true, false, cond, ◌≢◌, List, [], length, refl, arith}
-use Rattle.std.specs.List.{AllByRecursion as All}
+use Rattle.std.specs.List.{AllByRecursion}
 use Rattle.std.proofs.lemmas.Nat.{mul-le}
 use Rattle.std.proofs.ByRecursion.{All-weaker}
 use Rattle.std.proofs.lemmas.Bool.{both_ways, cond-true, cond-false}
@@ -34,7 +34,7 @@ module _ (N : ℕ) (signs : List Sign) (r : Rules N signs) where
         one_for_one = λ f g fill fill' e. one_for_one N f g fill fill' e;
       }
 
-  differ : All (λ s. s.lesser ≢ s.greater) signs
+  differ : AllByRecursion (λ s. s.lesser ≢ s.greater) signs
   differ = All-weaker (λ s. SharingSide N s.lesser s.greater) (λ s. s.lesser ≢ s.greater) (λ s. sharing_apart N s.lesser s.greater) signs r.all_share
 
   few : length signs ≤ 1000

@@ -1,6 +1,6 @@
 -- What the two kinds of clauses of the listing say of an assignment.
 use Rattle.std.proofs.Common.{◌≡◌, ℕ, zero, suc, ◌+◌, ◌-◌, ◌<◌, ◌≤◌, Bool, true, false, not, ◌||◌, List, [], ◌∷◌, map, get_or, pos, neg_ℤ, sym, refl, ap, ◌∙◌, ⊎_elim, arith}
-use Rattle.std.specs.List.{range_with_len, AllByRecursion as All}
+use Rattle.std.specs.List.{range_with_len, AllByRecursion}
 use Rattle.std.proofs.lemmas.Bool.{and_parts, and_from, or_cases, or_left, or_right, cases_eq, both_ways}
 use Rattle.cnf.specs.Formula.{Clause, Assignment, value_of, literal_true, clause_true, all_true}
 use Rattle.futoshiki.specs.Listing.{not_both, one_of}
@@ -16,11 +16,11 @@ module _ (a : Assignment) where
   value_placed (suc k) h = ap (λ i. get_or a i false) (omega arith)
 
   -- all clauses are true, as a test of all and of each
-  pub all_true_from : (cs : List Clause) → All (λ c. clause_true a c ≡ true) cs → all_true a cs ≡ true
+  pub all_true_from : (cs : List Clause) → AllByRecursion (λ c. clause_true a c ≡ true) cs → all_true a cs ≡ true
   all_true_from [] h = refl
   all_true_from (c ∷ cs) h = and_from (clause_true a c) (all_true a cs) h.0 (all_true_from cs h.1)
 
-  pub each_true : (cs : List Clause) → all_true a cs ≡ true → All (λ c. clause_true a c ≡ true) cs
+  pub each_true : (cs : List Clause) → all_true a cs ≡ true → AllByRecursion (λ c. clause_true a c ≡ true) cs
   each_true [] h = tt
   each_true (c ∷ cs) h = let w = and_parts (clause_true a c) (all_true a cs) h in (w.0, each_true cs w.1)
 

@@ -1,6 +1,6 @@
 -- What it says of an assignment that each clause of the listing is true, over cells and values.
 use Rattle.std.proofs.Common.{◌≡◌, ℕ, ◌*◌, ◌<◌, ◌≤◌, true, List, arith}
-use Rattle.std.specs.List.{AllByRecursion as All}
+use Rattle.std.specs.List.{AllByRecursion}
 use Rattle.std.proofs.ByRecursion.{All-weaker}
 use Rattle.cnf.specs.Formula.{Assignment, Clause, value_of, clause_true, all_true}
 use Rattle.futoshiki.specs.declared.sign.Sign.{Sign}
@@ -18,7 +18,7 @@ pub record View (a : Assignment) (N : ℕ) (signs : List Sign) : Type 0 where
   pub single : (i v w : ℕ) → InRange (N * N) i → 1 ≤ v → v < w → w ≤ N → NotBoth a (variable_at N i v) (variable_at N i w)
   pub in_row : (r v c d : ℕ) → InRange N r → InRange N v → 1 ≤ c → c < d → d ≤ N → NotBoth a (variable_at N (cell_at N r c) v) (variable_at N (cell_at N r d) v)
   pub in_column : (c v r s : ℕ) → InRange N c → InRange N v → 1 ≤ r → r < s → s ≤ N → NotBoth a (variable_at N (cell_at N r c) v) (variable_at N (cell_at N s c) v)
-  pub of_signs : All (SignSays a N) signs
+  pub of_signs : AllByRecursion (SignSays a N) signs
 
 module _ (a : Assignment) (N : ℕ) (signs : List Sign) where
   abbrev IsTrue : Clause → Type 0

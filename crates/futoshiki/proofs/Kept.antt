@@ -1,6 +1,6 @@
 -- The test of the rules tells whether a board keeps them.
 use Rattle.std.proofs.Common.{◌≡◌, ℕ, ◌+◌, ◌-◌, ◌*◌, ◌≤◌, true, ◌&&◌, leb, ◌≢◌, List, [], ◌∷◌, length, Decides, sym, refl, ap, ◌∙◌, ⊎_elim, arith}
-use Rattle.std.specs.List.{AllByRecursion as All}
+use Rattle.std.specs.List.{AllByRecursion}
 use Rattle.std.proofs.lemmas.Bool.{leb-true, le-leb, and_parts, and_from}
 use Rattle.futoshiki.specs.declared.sign.Sign.{Sign}
 use Rattle.futoshiki.specs.Board.{InRange, cell_at, sharing_side, SharingSide}
@@ -29,7 +29,7 @@ module _ (N : ℕ) (some : 1 ≤ N) where
       (and_from (in_range (N * N) s.lesser) (in_range (N * N) s.greater) (in_range_from (N * N) s.lesser on.0) (in_range_from (N * N) s.greater on.1))
       (shared N s.lesser s.greater side)
 
-  signs_from : (signs : List Sign) → signs_kept N signs ≡ true → All (OnBoard N) signs × All (λ s. SharingSide N s.lesser s.greater) signs
+  signs_from : (signs : List Sign) → signs_kept N signs ≡ true → AllByRecursion (OnBoard N) signs × AllByRecursion (λ s. SharingSide N s.lesser s.greater) signs
   signs_from [] h = (tt, tt)
   signs_from (s ∷ signs) h =
       let w = and_parts (sign_kept N s) (signs_kept N signs) h in
@@ -37,7 +37,7 @@ module _ (N : ℕ) (some : 1 ≤ N) where
       let r = signs_from signs w.1 in
       ((v.0, r.0), (v.1, r.1))
 
-  signs_kept_from : (signs : List Sign) → All (OnBoard N) signs → All (λ s. SharingSide N s.lesser s.greater) signs → signs_kept N signs ≡ true
+  signs_kept_from : (signs : List Sign) → AllByRecursion (OnBoard N) signs → AllByRecursion (λ s. SharingSide N s.lesser s.greater) signs → signs_kept N signs ≡ true
   signs_kept_from [] on side = refl
   signs_kept_from (s ∷ signs) on side =
       and_from (sign_kept N s) (signs_kept N signs) (sign_kept_from s on.0 side.0) (signs_kept_from signs on.1 side.1)

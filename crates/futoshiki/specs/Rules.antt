@@ -1,6 +1,6 @@
 -- The rules that a board keeps, as a test and in words.
 use Rattle.std.specs.Prelude.{ℕ, ◌*◌, ◌≤◌, Bool, true, ◌&&◌, List, [], ◌∷◌, length, nat_le}
-use Rattle.std.specs.List.{AllByRecursion as All}
+use Rattle.std.specs.List.{AllByRecursion}
 use Rattle.futoshiki.specs.declared.sign.Sign.{Sign}
 use Rattle.futoshiki.specs.Board.{InRange, sharing_side, SharingSide}
 
@@ -30,5 +30,5 @@ pub record Rules (N : ℕ) (signs : List Sign) : Type 0 where
   pub two_at_least : 2 ≤ N
   pub nine_at_most : N ≤ 9
   pub few_signs : length signs ≤ 2 * N * N
-  pub all_on_board : All (OnBoard N) signs
-  pub all_share : All (λ s. SharingSide N s.lesser s.greater) signs
+  pub all_on_board : AllByRecursion (OnBoard N) signs
+  pub all_share : AllByRecursion (λ s. SharingSide N s.lesser s.greater) signs

@@ -1,5 +1,5 @@
 ghost use Rattle.std.specs.Prelude.{◌+◌, ◌*◌, ◌<◌, ◌≤◌, length, OnOk};
-ghost use Rattle.std.specs.List.{flat_map, AllByRecursion as All};
+ghost use Rattle.std.specs.List.{flat_map, AllByRecursion};
 ghost use Rattle.futoshiki.specs.Board.{up_to};
 ghost use Rattle.futoshiki.specs.Rules.{OnBoard, Rules};
 ghost use Rattle.futoshiki.specs.Listing.{once_in_row, once_in_column, some_values, single_values, row_clauses, column_clauses, sign_clauses, five_groups};
@@ -120,7 +120,7 @@ impl Draft {
     fn signs_hold(&mut self, side: u32, signs: &[Sign]) -> Result<(), AllocError>
         requires between { BetweenClauses self.old }
         requires room { RoomFor self.old 26244 }
-        requires small { (side ≤ 9) × (length signs.now ≤ 162) × All (OnBoard side) signs.now }
+        requires small { (side ≤ 9) × (length signs.now ≤ 162) × AllByRecursion (OnBoard side) signs.now }
         ensures { OnOk result (Goes_on self.old self.new (flat_map (sign_clauses side) signs.now) 26244) }
     {
         for s in signs {

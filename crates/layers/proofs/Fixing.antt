@@ -1,6 +1,6 @@
 -- Literals as clauses of their own: what is told of them, and what they do to the models. Assumes nothing.
 use Rattle.std.proofs.Common.{◌≡◌, ℕ, ◌+◌, ◌-◌, ◌<◌, ◌≤◌, min, true, false, ◌&&◌, ◌||◌, leb, ◌↔◌, List, [], ◌∷◌, length, get_or, ℤ, pos, refl, ◌∙◌, ⊎_elim, arith}
-use Rattle.std.specs.List.{AllByRecursion as All}
+use Rattle.std.specs.List.{AllByRecursion}
 use Rattle.std.proofs.lemmas.List.{length-append, length-map, get_or-map}
 use Rattle.std.proofs.lemmas.Bool.{false≢true, and_parts, and_from, or_cases, or_left, cases_lt, leb-true, le-leb}
 use Rattle.cnf.specs.Formula.{Clause, Assignment, variable_of, literal_true, all_true, Model, Lawful, fresh_literal, all_proper}
@@ -36,11 +36,11 @@ module _ (cs : List Clause) (ls : List ℤ) (k m : ℕ) (is : m ≡ told_clauses
 
 -- the literals are true exactly when their clauses are
 module _ (a : Assignment) where
-  units_true : (ls : List ℤ) → All (λ l. literal_true a l ≡ true) ls → all_true a (units_of ls) ≡ true
+  units_true : (ls : List ℤ) → AllByRecursion (λ l. literal_true a l ≡ true) ls → all_true a (units_of ls) ≡ true
   units_true [] h = refl
   units_true (l ∷ ls) h = and_from _ _ (or_left (literal_true a l) false h.0) (units_true ls h.1)
 
-  true_units : (ls : List ℤ) → all_true a (units_of ls) ≡ true → All (λ l. literal_true a l ≡ true) ls
+  true_units : (ls : List ℤ) → all_true a (units_of ls) ≡ true → AllByRecursion (λ l. literal_true a l ≡ true) ls
   true_units [] h = tt
   true_units (l ∷ ls) h =
       let w = and_parts (literal_true a l || false) (all_true a (units_of ls)) h in
@@ -48,14 +48,14 @@ module _ (a : Assignment) where
 
 -- and they name variables from 1 to n exactly when these are proper
 module _ (n : ℕ) where
-  units_proper : (ls : List ℤ) → All (NamesVariable n) ls → all_proper n (units_of ls) ≡ true
+  units_proper : (ls : List ℤ) → AllByRecursion (NamesVariable n) ls → all_proper n (units_of ls) ≡ true
   units_proper [] h = refl
   units_proper (l ∷ ls) h =
       and_from _ _
       (and_from _ _ (and_from _ _ (and_from _ _ (le-leb 1 (variable_of l) h.0.0) (le-leb (variable_of l) n h.0.1)) refl) refl)
       (units_proper ls h.1)
 
-  proper_units : (ls : List ℤ) → all_proper n (units_of ls) ≡ true → All (NamesVariable n) ls
+  proper_units : (ls : List ℤ) → all_proper n (units_of ls) ≡ true → AllByRecursion (NamesVariable n) ls
   proper_units [] h = tt
   proper_units (l ∷ ls) h =
       let w = and_parts (fresh_literal n [] l && true) (all_proper n (units_of ls)) h in
@@ -68,26 +68,26 @@ module _ (n : ℕ) (cs : List Clause) (ls : List ℤ) where
   size : length (fixed_listing cs ls) ≡ length cs + length ls
   size = let e = length-append cs (units_of ls) in let f = length-map ls (λ l. l ∷ []) in omega arith
 
-  models : (a : Assignment) → Model n (fixed_listing cs ls) a ↔ (Model n cs a × All (λ l. literal_true a l ≡ true) ls)
+  models : (a : Assignment) → Model n (fixed_listing cs ls) a ↔ (Model n cs a × AllByRecursion (λ l. literal_true a l ≡ true) ls)
   models a = (to, from)
     where
-      to : Model n (fixed_listing cs ls) a → Model n cs a × All (λ l. literal_true a l ≡ true) ls
+      to : Model n (fixed_listing cs ls) a → Model n cs a × AllByRecursion (λ l. literal_true a l ≡ true) ls
       to m = let w = true_parts a cs (units_of ls) m.holds in (record { total = m.total; holds = w.0 }, true_units a ls w.1)
 
-      from : Model n cs a × All (λ l. literal_true a l ≡ true) ls → Model n (fixed_listing cs ls) a
+      from : Model n cs a × AllByRecursion (λ l. literal_true a l ≡ true) ls → Model n (fixed_listing cs ls) a
       from m = record { total = m.0.total; holds = true_append a cs (units_of ls) m.0.holds (units_true a ls m.1) }
 
-  lawful : Lawful n (fixed_listing cs ls) ↔ (Lawful n cs × All (NamesVariable n) ls × (length cs + length ls ≤ 65535))
+  lawful : Lawful n (fixed_listing cs ls) ↔ (Lawful n cs × AllByRecursion (NamesVariable n) ls × (length cs + length ls ≤ 65535))
   lawful = (to, from)
     where
-      to : Lawful n (fixed_listing cs ls) → Lawful n cs × All (NamesVariable n) ls × (length cs + length ls ≤ 65535)
+      to : Lawful n (fixed_listing cs ls) → Lawful n cs × AllByRecursion (NamesVariable n) ls × (length cs + length ls ≤ 65535)
       to w =
           let p = proper_parts n cs (units_of ls) w.clauses_proper in
           let few = w.few_clauses in
           let e = size in
           (record { some_variable = w.some_variable; few_variables = w.few_variables; few_clauses = omega arith; clauses_proper = p.0 }, proper_units n ls p.1, omega arith)
 
-      from : Lawful n cs × All (NamesVariable n) ls × (length cs + length ls ≤ 65535) → Lawful n (fixed_listing cs ls)
+      from : Lawful n cs × AllByRecursion (NamesVariable n) ls × (length cs + length ls ≤ 65535) → Lawful n (fixed_listing cs ls)
       from w =
           let few = w.2 in
           let e = size in

@@ -1,6 +1,6 @@
 -- Fixing literals: each is listed as a clause of its own, and only the models that make all of them true stay.
 use Rattle.std.specs.Prelude.{◌≡◌, ℕ, ◌+◌, ◌<◌, ◌≤◌, true, ◌↔◌, List, [], ◌∷◌, ◌++◌, map, length, take, ℤ}
-use Rattle.std.specs.List.{AllByRecursion as All}
+use Rattle.std.specs.List.{AllByRecursion}
 use Rattle.cnf.specs.declared.literal.Literal.{Literal}
 use Rattle.cnf.specs.declared.fault.Fault.TheVariants.{FixFull}
 use Rattle.layers.specs.declared.fix.Fix.{Fix}
@@ -33,5 +33,5 @@ NamesVariable n l = (1 ≤ variable_of l) × (variable_of l ≤ n)
 
 -- what fixing literals does to the models, and when it is lawful
 pub record FixMeans (n : ℕ) (cs : List Clause) (ls : List ℤ) : Type 0 where
-  pub models : (a : Assignment) → Model n (fixed_listing cs ls) a ↔ (Model n cs a × All (λ l. literal_true a l ≡ true) ls)
-  pub lawful : Lawful n (fixed_listing cs ls) ↔ (Lawful n cs × All (NamesVariable n) ls × (length cs + length ls ≤ 65535))
+  pub models : (a : Assignment) → Model n (fixed_listing cs ls) a ↔ (Model n cs a × AllByRecursion (λ l. literal_true a l ≡ true) ls)
+  pub lawful : Lawful n (fixed_listing cs ls) ↔ (Lawful n cs × AllByRecursion (NamesVariable n) ls × (length cs + length ls ≤ 65535))

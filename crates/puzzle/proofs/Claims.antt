@@ -1,6 +1,6 @@
 -- The filling that the claims give, and its bytes.
 use Rattle.std.proofs.Common.{◌≡◌, ℕ, suc, ◌-◌, ◌*◌, Bool, true, false, cond, eqb, ◌⊎◌, ◌↔◌, List, [], ◌∷◌, map, sym, refl, ap, ◌∙◌, subst, inl, inr, arith}
-use Rattle.std.specs.List.{AllByRecursion as All}
+use Rattle.std.specs.List.{AllByRecursion}
 use Rattle.std.proofs.lemmas.List.{length-map}
 use Rattle.std.proofs.ByRecursion.{All-map}
 use Rattle.std.proofs.lemmas.List.FromFn.{length-map-range_with_len, get_or-map-range_with_len}
@@ -19,7 +19,7 @@ use Rattle.puzzle.specs.Accepted.{EntryOn, Sound}
 use Rattle.puzzle.specs.Meaning.{puzzle_variables, claim_at, claimed_filling, byte_of, claim_bytes}
 
 -- a member of one sort, among members that are all of another
-any_pick : {A : Type 0} (P Q : A → Type 0) (R : Type 0) → ((x : A) → P x → Q x → R) → (xs : List A) → Any P xs → All Q xs → R
+any_pick : {A : Type 0} (P Q : A → Type 0) (R : Type 0) → ((x : A) → P x → Q x → R) → (xs : List A) → Any P xs → AllByRecursion Q xs → R
 any_pick P Q R f [] a h = absurd a
 any_pick P Q R f (x ∷ xs) a h = elim a [ inl p ↦ f x p h.0 | inr r ↦ any_pick P Q R f xs r h.1 ]
 
@@ -57,7 +57,7 @@ bytes_pass p [] = refl
 bytes_pass p (true ∷ a) = bytes_pass (suc p) a
 bytes_pass p (false ∷ a) = bytes_pass (suc p) a
 
-bytes_are_bits : (a : List Bool) → All (λ b. (b ≡ 0) ⊎ (b ≡ 1)) (map byte_of a)
+bytes_are_bits : (a : List Bool) → AllByRecursion (λ b. (b ≡ 0) ⊎ (b ≡ 1)) (map byte_of a)
 bytes_are_bits [] = tt
 bytes_are_bits (true ∷ a) = (inr refl, bytes_are_bits a)
 bytes_are_bits (false ∷ a) = (inl refl, bytes_are_bits a)
@@ -104,7 +104,7 @@ module _ (P : Puzzle) (sound : Sound P) where
       let size = length-map a byte_of ∙ (board.models.assigns f filling).whole ∙ sym board.variables_count in
       form_sized (puzzle_variables P) (map byte_of a) board.lawful.few_variables size ∙ bytes_pass 1 a
 
-  pub claim_bits : All (λ b. (b ≡ 0) ⊎ (b ≡ 1)) (claim_bytes P.size P.claims)
+  pub claim_bits : AllByRecursion (λ b. (b ≡ 0) ⊎ (b ≡ 1)) (claim_bytes P.size P.claims)
   unfolding claim_bytes
   claim_bits = bytes_are_bits (filling_assignment P.size (claimed_filling P.size P.claims))
 

@@ -1,6 +1,6 @@
 -- Tables for as many records as a board can have are never full.
 use Rattle.std.proofs.Common.{◌≡◌, ℕ, ◌+◌, ◌<◌, ◌≤◌, Bool, ◌≢◌, ◌⊎◌, List, [], ◌∷◌, ◌++◌, length, Err, ap, inl, inr, arith}
-use Rattle.std.specs.List.{AllByRecursion as All}
+use Rattle.std.specs.List.{AllByRecursion}
 use Rattle.std.proofs.ByRecursion.{All-push}
 use Rattle.std.proofs.lemmas.List.{length_push}
 use Rattle.std.proofs.lemmas.Nat.{mul-le}
@@ -19,7 +19,7 @@ use Rattle.puzzle.proofs.Keys.{turn_cell, turn_pair, once_push}
 use Rattle.puzzle.proofs.Few.{few_entries, few_signs}
 use Rattle.puzzle.proofs.Refusals.{refused_is}
 
-one_more : (N : ℕ) (es : List Entry) (e : Entry) → N ≤ 9 → All (EntryOn N) es → EntryOn N e → Once SameCell es → All (λ g. SameCell e g → ⊥) es → length es < 81
+one_more : (N : ℕ) (es : List Entry) (e : Entry) → N ≤ 9 → AllByRecursion (EntryOn N) es → EntryOn N e → Once SameCell es → AllByRecursion (λ g. SameCell e g → ⊥) es → length es < 81
 one_more N es e high on o once new =
     omega (
       arith,

@@ -1,6 +1,6 @@
 -- No more records than keys: at most N × N entries, and twice as many signs.
 use Rattle.std.proofs.Common.{◌≡◌, ℕ, zero, suc, ◌+◌, ◌-◌, ◌*◌, ◌≤◌, min, Bool, true, false, cond, eqb, ◌⊎◌, List, [], ◌∷◌, length, sym, refl, ap, ◌∙◌, inl, inr, suc-mul, arith}
-use Rattle.std.specs.List.{AllByRecursion as All}
+use Rattle.std.specs.List.{AllByRecursion}
 use Rattle.std.proofs.lemmas.Bool.{eqb-true, eqb-false, eq-eqb, ne_eqb, or_left, or_right, or_from}
 use Rattle.std.proofs.ByRecursion.{All-weaker}
 use Rattle.futoshiki.specs.declared.sign.Sign.{Sign}
@@ -22,22 +22,22 @@ module _ {A : Type 0} (key : A → ℕ) where
   shorter v [] = omega arith
   shorter v (x ∷ xs) = elim (eqb (key x) v) as (λ b. length (x ∷ xs) ≤ suc (length (cond b xs (x ∷ without v xs)))) [ true ↦ omega arith | false ↦ omega (arith, shorter v xs) ]
 
-  all_without : (P : A → Type 0) (v : ℕ) (xs : List A) → All P xs → All P (without v xs)
+  all_without : (P : A → Type 0) (v : ℕ) (xs : List A) → AllByRecursion P xs → AllByRecursion P (without v xs)
   unfolding without
   all_without P v [] h = tt
-  all_without P v (x ∷ xs) h = elim (eqb (key x) v) as (λ b. All P (cond b xs (x ∷ without v xs))) [ true ↦ h.1 | false ↦ (h.0, all_without P v xs h.1) ]
+  all_without P v (x ∷ xs) h = elim (eqb (key x) v) as (λ b. AllByRecursion P (cond b xs (x ∷ without v xs))) [ true ↦ h.1 | false ↦ (h.0, all_without P v xs h.1) ]
 
   once_without : (v : ℕ) (xs : List A) → Once (λ x y. key x ≡ key y) xs → Once (λ x y. key x ≡ key y) (without v xs)
   unfolding without
   once_without v [] h = tt
   once_without v (x ∷ xs) h = elim (eqb (key x) v) as (λ b. Once (λ x y. key x ≡ key y) (cond b xs (x ∷ without v xs))) [ true ↦ h.1 | false ↦ (all_without (λ y. key x ≡ key y → ⊥) v xs h.0, once_without v xs h.1) ]
 
-  lower : (n : ℕ) (xs : List A) → Once (λ x y. key x ≡ key y) xs → All (λ x. InRange (suc n) (key x)) xs → All (λ x. InRange n (key x)) (without (suc n) xs)
+  lower : (n : ℕ) (xs : List A) → Once (λ x y. key x ≡ key y) xs → AllByRecursion (λ x. InRange (suc n) (key x)) xs → AllByRecursion (λ x. InRange n (key x)) (without (suc n) xs)
   unfolding without
   lower n [] o h = tt
   lower n (x ∷ xs) o h = go (lower n xs o.1 h.1) (eqb (key x) (suc n)) refl
     where
-      go : All (λ x. InRange n (key x)) (without (suc n) xs) → (b : Bool) → eqb (key x) (suc n) ≡ b → All (λ x. InRange n (key x)) (cond b xs (x ∷ without (suc n) xs))
+      go : AllByRecursion (λ x. InRange n (key x)) (without (suc n) xs) → (b : Bool) → eqb (key x) (suc n) ≡ b → AllByRecursion (λ x. InRange n (key x)) (cond b xs (x ∷ without (suc n) xs))
       go ih true e =
           let k = eqb-true (key x) (suc n) e in
           all_both (λ y. key x ≡ key y → ⊥) (λ y. InRange (suc n) (key y)) (λ y. InRange n (key y)) (λ y d w. (w.0, omega arith)) xs o.0 h.1
@@ -46,12 +46,12 @@ module _ {A : Type 0} (key : A → ℕ) where
           ((h.0.0, omega arith), ih)
 
   -- records with keys from 1 to n, no key twice, are at most n
-  few : (n : ℕ) (xs : List A) → Once (λ x y. key x ≡ key y) xs → All (λ x. InRange n (key x)) xs → length xs ≤ n
+  few : (n : ℕ) (xs : List A) → Once (λ x y. key x ≡ key y) xs → AllByRecursion (λ x. InRange n (key x)) xs → length xs ≤ n
   few zero [] o h = omega arith
   few zero (x ∷ xs) o h = absurd (omega arith)
   few (suc n) xs o h = omega (arith, shorter (suc n) xs, few n (without (suc n) xs) (once_without (suc n) xs o) (lower n xs o h))
 
-pub few_entries : (N : ℕ) (es : List Entry) → Once SameCell es → All (EntryOn N) es → length es ≤ N * N
+pub few_entries : (N : ℕ) (es : List Entry) → Once SameCell es → AllByRecursion (EntryOn N) es → length es ≤ N * N
 few_entries N es o h = few (λ (e : Entry). e.cell) (N * N) es o (All-weaker (EntryOn N) (λ e. InRange (N * N) e.cell) (λ e b. b.0) es h)
 
 -- cells that share a side differ by 1 or by N
@@ -115,14 +115,14 @@ same_weight N h s u a b e =
 weight_within : (N : ℕ) → 2 ≤ N → (s : Sign) → Stands N s → InRange (2 * (N * N)) (weight N s)
 weight_within N h s a = elim (weighs N s h a.1) [ inl p ↦ (omega (arith, p.1), omega (arith, p.1)) | inr p ↦ (omega (arith, p.1), omega (arith, p.1)) ]
 
-once_by : (N : ℕ) → 2 ≤ N → (ss : List Sign) → All (Stands N) ss → Once SamePair ss → Once (λ s u. weight N s ≡ weight N u) ss
+once_by : (N : ℕ) → 2 ≤ N → (ss : List Sign) → AllByRecursion (Stands N) ss → Once SamePair ss → Once (λ s u. weight N s ≡ weight N u) ss
 once_by N h [] a o = tt
 once_by N h (s ∷ ss) a o = (
   all_both (Stands N) (λ u. SamePair s u → ⊥) (λ u. weight N s ≡ weight N u → ⊥) (λ u b d e. d (same_weight N h s u a.0 b e)) ss a.1 o.0,
   once_by N h ss a.1 o.1,
 )
 
-pub few_signs : (N : ℕ) → 2 ≤ N → (ss : List Sign) → All (OnBoard N) ss → All (λ s. SharingSide N s.lesser s.greater) ss → Once SamePair ss → length ss ≤ 2 * (N * N)
+pub few_signs : (N : ℕ) → 2 ≤ N → (ss : List Sign) → AllByRecursion (OnBoard N) ss → AllByRecursion (λ s. SharingSide N s.lesser s.greater) ss → Once SamePair ss → length ss ≤ 2 * (N * N)
 few_signs N h ss on sh o =
     let a = all_both (OnBoard N) (λ s. SharingSide N s.lesser s.greater) (Stands N) (λ s x y. (x, y)) ss on sh in
     few (weight N) (2 * (N * N)) ss (once_by N h ss a o) (All-weaker (Stands N) (λ s. InRange (2 * (N * N)) (weight N s)) (weight_within N h) ss a)

@@ -1,6 +1,6 @@
 -- Keys: what a search by key tells, and keys that stand once.
 use Rattle.std.proofs.Common.{◌≡◌, ℕ, min, max, Bool, true, false, List, [], ◌∷◌, ◌++◌, Decides, sym, refl, inl, inr, ⊎_elim, arith}
-use Rattle.std.specs.List.{AllByRecursion as All}
+use Rattle.std.specs.List.{AllByRecursion}
 use Rattle.std.proofs.ByRecursion.{All-push}
 use Rattle.std.proofs.lemmas.Bool.{or_parts, or_from, cases_Bool, cases_eq}
 use Rattle.std.proofs.lemmas.Bool.Decides.{not_from_Decides, Decides-eqb, Decides-and}
@@ -46,22 +46,22 @@ turn_pair s t h = elim h [ inl p ↦ inl (sym p.0, sym p.1) | inr p ↦ inr (sym
 
 -- a key is not found exactly when no record has it
 module _ {A : Type 0} (key : A → Key) (Same : A → A → Type 0) (told : (x y : A) → Decides (same_key (key y) (key x)) (Same x y)) where
-  pub absent : (x : A) (ys : List A) → has_key key ys (key x) ≡ false → All (λ y. Same x y → ⊥) ys
+  pub absent : (x : A) (ys : List A) → has_key key ys (key x) ≡ false → AllByRecursion (λ y. Same x y → ⊥) ys
   absent x [] h = tt
   absent x (y ∷ ys) h =
       let p = or_parts (same_key (key y) (key x)) (has_key key ys (key x)) h in
       (not_from_Decides (same_key (key y) (key x)) (told x y) p.0, absent x ys p.1)
 
-  pub absent_from : (x : A) (ys : List A) → All (λ y. Same x y → ⊥) ys → has_key key ys (key x) ≡ false
+  pub absent_from : (x : A) (ys : List A) → AllByRecursion (λ y. Same x y → ⊥) ys → has_key key ys (key x) ≡ false
   absent_from x [] h = refl
   absent_from x (y ∷ ys) h = or_from _ _ (false_from_decides (Same x y) (same_key (key y) (key x)) (told x y) h.0) (absent_from x ys h.1)
 
 -- a record with a new key can be added, and was new when it came
 module _ {A : Type 0} (Same : A → A → Type 0) (turn : (x y : A) → Same x y → Same y x) where
-  pub once_push : (xs : List A) (x : A) → Once Same xs → All (λ y. Same x y → ⊥) xs → Once Same (xs ++ x ∷ [])
+  pub once_push : (xs : List A) (x : A) → Once Same xs → AllByRecursion (λ y. Same x y → ⊥) xs → Once Same (xs ++ x ∷ [])
   once_push [] x o h = (tt, tt)
   once_push (y ∷ ys) x o h = (All-push (λ z. Same y z → ⊥) ys x o.0 (λ s. h.0 (turn y x s)), once_push ys x o.1 h.1)
 
-  pub once_new : (xs : List A) (x : A) (ys : List A) → Once Same (xs ++ x ∷ ys) → All (λ y. Same x y → ⊥) xs
+  pub once_new : (xs : List A) (x : A) (ys : List A) → Once Same (xs ++ x ∷ ys) → AllByRecursion (λ y. Same x y → ⊥) xs
   once_new [] x ys o = tt
   once_new (y ∷ xs) x ys o = ((λ s. (all_right (λ z. Same y z → ⊥) xs (x ∷ ys) o.0).0 (turn x y s)), once_new xs x ys o.1)

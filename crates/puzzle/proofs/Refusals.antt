@@ -1,6 +1,6 @@
 -- Whole lists: refused with a fault exactly when that is the first.
 use Rattle.std.proofs.Common.{◌≡◌, ℕ, suc, ◌+◌, ◌≤◌, Bool, true, false, ◌⊎◌, ◌↔◌, List, [], ◌∷◌, ◌++◌, map, length, Some, None, Ok, Err, Option, sym, refl, ap, ◌∙◌, subst, inl, inr, ⊎_elim, append_assoc, arith}
-use Rattle.std.specs.List.{AllByRecursion as All}
+use Rattle.std.specs.List.{AllByRecursion}
 use Rattle.std.proofs.lemmas.List.{map-append, length_push}
 use Rattle.std.proofs.lemmas.Bool.{both_ways}
 use Rattle.std.proofs.lemmas.Bool.Decides.{not_from_Decides}
@@ -47,7 +47,7 @@ record Halts (t : Tables) (P₀ : Puzzle) (p : ℕ) (ws : List ℕ) (f : Fault) 
   ended : Bool
   rest : List ℕ
   records : List Item
-  each : All IsRecord records
+  each : AllByRecursion IsRecord records
   words : ws ≡ map item_word items ++ rest
   made : puzzle ≡ gathered P₀ records
   registered : Registered puzzle

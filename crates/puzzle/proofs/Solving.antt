@@ -1,6 +1,6 @@
 -- A sound puzzle's source is lawful, its models are the solutions' assignments, and its claim is accepted exactly when the claimed filling is a solution.
 use Rattle.std.proofs.Common.{◌≡◌, ℕ, ◌+◌, ◌-◌, ◌*◌, ◌/◌, ◌≤◌, true, ◌↔◌, List, [], ◌∷◌, length, pos, sym, ◌∙◌, subst, mul_assoc, arith}
-use Rattle.std.specs.List.{AllByRecursion as All}
+use Rattle.std.specs.List.{AllByRecursion}
 use Rattle.std.proofs.lemmas.Nat.{mul-le}
 use Rattle.std.proofs.ByRecursion.{All-map, All-weaker}
 use Rattle.std.proofs.lemmas.List.{length-append, length-map}
@@ -55,7 +55,7 @@ module _ (P : Puzzle) (sound : Sound P) where
       let w = within (P.size * P.size) P.size g.cell g.value o.0 o.1 in
       (w.0, omega (arith, board.variables_count))
 
-  all_named : All (NamesVariable (puzzle_variables P)) (given_literals P.size P.givens)
+  all_named : AllByRecursion (NamesVariable (puzzle_variables P)) (given_literals P.size P.givens)
   all_named =
       All-map (NamesVariable (puzzle_variables P)) (λ g. pos (variable_at P.size g.cell g.value)) P.givens
       (All-weaker (EntryOn P.size) (λ g. NamesVariable (puzzle_variables P) (pos (variable_at P.size g.cell g.value))) named P.givens sound.registered.givens_on)
@@ -91,13 +91,13 @@ module _ (P : Puzzle) (sound : Sound P) where
   TrueUnder a g = literal_true a (pos (variable_at P.size g.cell g.value)) ≡ true
 
   -- under a filling's assignment the givens' literals are true exactly when the filling keeps the givens
-  givens_true : (f : List ℕ) → Filling P.size f → All (Kept f) P.givens → All (λ l. literal_true (filling_assignment P.size f) l ≡ true) (given_literals P.size P.givens)
+  givens_true : (f : List ℕ) → Filling P.size f → AllByRecursion (Kept f) P.givens → AllByRecursion (λ l. literal_true (filling_assignment P.size f) l ≡ true) (given_literals P.size P.givens)
   givens_true f fill kept =
       let a = filling_assignment P.size f in
       All-map (λ l. literal_true a l ≡ true) (λ g. pos (variable_at P.size g.cell g.value)) P.givens
       (all_both (EntryOn P.size) (Kept f) (TrueUnder a) (λ g o h. ((board.models.assigns f fill).exactly g.cell g.value o.0 o.1).1 h) P.givens sound.registered.givens_on kept)
 
-  true_givens : (f : List ℕ) → Filling P.size f → All (λ l. literal_true (filling_assignment P.size f) l ≡ true) (given_literals P.size P.givens) → All (Kept f) P.givens
+  true_givens : (f : List ℕ) → Filling P.size f → AllByRecursion (λ l. literal_true (filling_assignment P.size f) l ≡ true) (given_literals P.size P.givens) → AllByRecursion (Kept f) P.givens
   true_givens f fill h =
       let a = filling_assignment P.size f in
       all_both (EntryOn P.size) (TrueUnder a) (Kept f) (λ g o t. ((board.models.assigns f fill).exactly g.cell g.value o.0 o.1).0 t) P.givens sound.registered.givens_on
@@ -112,7 +112,7 @@ module _ (P : Puzzle) (sound : Sound P) where
   solution a m =
       let w = (fixing.models a).0 m in
       let c = board.models.complete a w.0 in
-      let t = subst (λ x. All (λ l. literal_true x l ≡ true) (given_literals P.size P.givens)) (sym c.3) w.1 in
+      let t = subst (λ x. AllByRecursion (λ l. literal_true x l ≡ true) (given_literals P.size P.givens)) (sym c.3) w.1 in
       (c.0, record { fills = c.1; keeps = c.2; given_kept = true_givens c.0 c.1 t }, c.3)
 
   one_for_one : (f g : List ℕ) → Filling P.size f → Filling P.size g → filling_assignment P.size f ≡ filling_assignment P.size g → f ≡ g

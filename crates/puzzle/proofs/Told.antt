@@ -1,6 +1,6 @@
 -- Each test of a word decides its condition.
 use Rattle.std.proofs.Common.{◌≡◌, ℕ, ◌*◌, ◌≤◌, true, false, ◌&&◌, eqb, leb, List, [], ◌∷◌, length, Decides, refl, arith}
-use Rattle.std.specs.List.{AllByRecursion as All}
+use Rattle.std.specs.List.{AllByRecursion}
 use Rattle.std.proofs.lemmas.Bool.{leb-true, le-leb, not-true, not_from_false, both_ways}
 use Rattle.std.proofs.lemmas.Bool.Decides.{Decides-and, Decides-or, Decides-ltb, Decides-eqb}
 use Rattle.futoshiki.specs.Board.{InRange, up_to}
@@ -74,7 +74,7 @@ told_claimed : (es : List Entry) (i : ℕ) → Decides (has_key entry_key es (ce
 told_claimed [] i = never
 told_claimed (e ∷ es) i = Decides-or (same_key (entry_key e) (cell_key i)) (has_key entry_key es (cell_key i)) (told_cell_key e.cell i) (told_claimed es i)
 
-told_all : (es : List Entry) (is : List ℕ) → Decides (all_claimed es is) (All (λ i. Any (λ e. e.cell ≡ i) es) is)
+told_all : (es : List Entry) (is : List ℕ) → Decides (all_claimed es is) (AllByRecursion (λ i. Any (λ e. e.cell ≡ i) es) is)
 unfolding all_claimed
 told_all es [] = always
 told_all es (i ∷ is) = Decides-and (has_key entry_key es (cell_key i)) (all_claimed es is) (told_claimed es i) (told_all es is)

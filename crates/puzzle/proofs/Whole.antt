@@ -1,6 +1,6 @@
 -- Whole lists: taken exactly when they are as they should be.
 use Rattle.std.proofs.Common.{◌≡◌, ℕ, suc, ◌+◌, ◌≤◌, true, false, ◌&&◌, eqb, leb, ◌↔◌, List, [], ◌∷◌, ◌++◌, map, length, Some, None, Ok, Err, Option, sym, refl, ap, ◌∙◌, subst, arith}
-use Rattle.std.specs.List.{AllByRecursion as All}
+use Rattle.std.specs.List.{AllByRecursion}
 use Rattle.std.proofs.lemmas.Bool.{and_parts, and_from, leb-true, le-leb, eqb-true, both_ways}
 use Rattle.cnf.specs.declared.fault.Fault.{Fault}
 use Rattle.cnf.specs.declared.fault.Fault.TheVariants.{WordForm, BoardWord, EndWord}
@@ -22,7 +22,7 @@ reading P = record { so_far = P; after_end = false }
 -- what is left of a taken list, read from a puzzle on
 record Rest (t : Tables) (P₀ : Puzzle) (ws : List ℕ) (P : Puzzle) : Type 0 where
   items : List Item
-  records : All IsRecord items
+  records : AllByRecursion IsRecord items
   words : ws ≡ map item_word items ++ item_word End ∷ []
   made : P ≡ gathered P₀ items
   registered : Registered P
@@ -137,7 +137,7 @@ unfolding read_from
 at_end t Q p = refl
 
 -- records in order are read
-pub prefix : (t : Tables) (is : List Item) (P₀ : Puzzle) (p : ℕ) (rest : List ℕ) → All IsRecord is → 1 ≤ P₀.size → P₀.size ≤ 9 → Registered (gathered P₀ is) → Room t (gathered P₀ is) → read_from t (reading P₀) p (map item_word is ++ rest) ≡ read_from t (reading (gathered P₀ is)) (p + length is) rest
+pub prefix : (t : Tables) (is : List Item) (P₀ : Puzzle) (p : ℕ) (rest : List ℕ) → AllByRecursion IsRecord is → 1 ≤ P₀.size → P₀.size ≤ 9 → Registered (gathered P₀ is) → Room t (gathered P₀ is) → read_from t (reading P₀) p (map item_word is ++ rest) ≡ read_from t (reading (gathered P₀ is)) (p + length is) rest
 prefix t [] P₀ p rest all some high reg room = ap (λ x. read_from t (reading P₀) x rest) (omega arith)
 prefix t (it ∷ is) P₀ p rest all some high reg room =
     let a = admit t P₀ it is all.0 (subst Registered (gathered_is P₀ (it ∷ is)) reg) (subst (Room t) (gathered_is P₀ (it ∷ is)) room) in

@@ -1,6 +1,6 @@
 -- What a taken list is, in the puzzle's words.
 use Rattle.std.specs.Prelude.{◌≡◌, ℕ, ◌*◌, ◌≤◌, List, [], ◌∷◌, ◌++◌, map, length}
-use Rattle.std.specs.List.{AllByRecursion as All}
+use Rattle.std.specs.List.{AllByRecursion}
 use Rattle.futoshiki.specs.declared.sign.Sign.{Sign}
 use Rattle.futoshiki.specs.Board.{InRange, SharingSide}
 use Rattle.futoshiki.specs.Rules.{OnBoard}
@@ -54,13 +54,13 @@ EntryOn N e = InRange (N * N) e.cell × InRange N e.value
 
 -- records on the board, none with the key of another, and signs between cells that share a side
 pub record Registered (P : Puzzle) : Type 0 where
-  pub givens_on : All (EntryOn P.size) P.givens
-  pub claims_on : All (EntryOn P.size) P.claims
-  pub signs_on : All (OnBoard P.size) P.signs
+  pub givens_on : AllByRecursion (EntryOn P.size) P.givens
+  pub claims_on : AllByRecursion (EntryOn P.size) P.claims
+  pub signs_on : AllByRecursion (OnBoard P.size) P.signs
   pub givens_once : Once SameCell P.givens
   pub claims_once : Once SameCell P.claims
   pub signs_once : Once SamePair P.signs
-  pub sides : All (λ s. SharingSide P.size s.lesser s.greater) P.signs
+  pub sides : AllByRecursion (λ s. SharingSide P.size s.lesser s.greater) P.signs
 
 -- every cell of the board is claimed
 abbrev pub Claimed : Puzzle → Type 0
@@ -82,7 +82,7 @@ pub record Sound (P : Puzzle) : Type 0 where
 -- the words are a Futoshiki board's, those of givens, claims and signs, and the end word, that and no more; the puzzle is sound, has these records in order of arrival, and the tables have room for it
 pub record Accepted (t : Tables) (ws : List ℕ) (P : Puzzle) : Type 0 where
   pub items : List Item
-  pub records : All IsRecord items
+  pub records : AllByRecursion IsRecord items
   pub words : ws ≡ item_word (Board 1 P.size) ∷ (map item_word items ++ item_word End ∷ [])
   pub made : P ≡ puzzle_of P.size items
   pub sound : Sound P

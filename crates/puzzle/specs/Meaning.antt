@@ -1,6 +1,6 @@
 -- What an accepted puzzle means: its source, its solutions, and the filling that its claims give.
 use Rattle.std.specs.Prelude.{◌≡◌, ℕ, ◌*◌, Bool, true, false, cond, List, [], ◌∷◌, map, pos, ◌==◌}
-use Rattle.std.specs.List.{AllByRecursion as All}
+use Rattle.std.specs.List.{AllByRecursion}
 use Rattle.cnf.specs.Formula.{Clause}
 use Rattle.layers.specs.Fixed.{fixed_listing}
 use Rattle.futoshiki.specs.declared.sign.Sign.{Sign}
@@ -26,7 +26,7 @@ puzzle_listing P = fixed_listing (board_listing P.size P.signs) (given_literals 
 pub record Solves (P : Puzzle) (f : List ℕ) : Type 0 where
   pub fills : Filling P.size f
   pub keeps : Keeps P.size P.signs f
-  pub given_kept : All (λ g. held_value f g.cell ≡ g.value) P.givens
+  pub given_kept : AllByRecursion (λ g. held_value f g.cell ≡ g.value) P.givens
 
 -- the value that a cell's claim gives it
 unfoldable pub claim_at : List Entry → ℕ → ℕ

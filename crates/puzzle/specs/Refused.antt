@@ -1,6 +1,6 @@
 -- Why a list is refused, in the puzzle's words.
 use Rattle.std.specs.Prelude.{◌≡◌, ℕ, ◌+◌, ◌*◌, ◌<◌, ◌≤◌, Bool, true, false, ◌⊎◌, List, [], ◌∷◌, ◌++◌, map, length}
-use Rattle.std.specs.List.{AllByRecursion as All}
+use Rattle.std.specs.List.{AllByRecursion}
 use Rattle.cnf.specs.declared.fault.Fault.{Fault}
 use Rattle.cnf.specs.declared.fault.Fault.TheVariants.{WordForm, BoardWord, OutOfRange, KeyPresent, NoSideShared, EndWord, ClaimMissing, TableFull}
 use Rattle.futoshiki.specs.Board.{SharingSide}
@@ -40,9 +40,9 @@ ItemRanged N End = Unit {0}
 -- 4: no record before it has its key
 abbrev pub NewKey : Puzzle → Item → Type 0
 NewKey P (Board p N) = Unit {0}
-NewKey P (Given e) = All (λ g. SameCell e g → ⊥) P.givens
-NewKey P (Claim e) = All (λ g. SameCell e g → ⊥) P.claims
-NewKey P (Less s) = All (λ g. SamePair s g → ⊥) P.signs
+NewKey P (Given e) = AllByRecursion (λ g. SameCell e g → ⊥) P.givens
+NewKey P (Claim e) = AllByRecursion (λ g. SameCell e g → ⊥) P.claims
+NewKey P (Less s) = AllByRecursion (λ g. SamePair s g → ⊥) P.signs
 NewKey P End = Unit {0}
 
 -- 5: a sign's cells share a side
@@ -93,7 +93,7 @@ Breaks t P ended p it f = FirstBroken (conditions t P ended p it) f
 -- what was read without a fault: records in order that have room, and perhaps the end word, with every cell claimed
 pub record InOrder (t : Tables) (N : ℕ) (items : List Item) (P : Puzzle) (ended : Bool) : Type 0 where
   pub records : List Item
-  pub each : All IsRecord records
+  pub each : AllByRecursion IsRecord records
   pub made : P ≡ puzzle_of N records
   pub registered : Registered P
   pub room : Room t P

@@ -1,5 +1,5 @@
 ghost use Rattle.std.specs.Prelude.{◌≡◌, ◌≤◌, true, pos, is_ok, IfOk, MatchResult};
-ghost use Rattle.std.specs.List.{AllByRecursion as All};
+ghost use Rattle.std.specs.List.{AllByRecursion};
 ghost use Rattle.cnf.specs.Tabled.{numbers_of};
 ghost use Rattle.futoshiki.specs.Board.{variable_at};
 ghost use Rattle.puzzle.specs.Reading.{read_list};
@@ -33,7 +33,7 @@ fn literal(side: u32, g: Entry) -> Literal
 
 // The givens as literals, in their order.
 fn literals_of(heap: Global, side: u32, givens: &[Entry]) -> Result<Vec<Literal>, AllocError>
-    requires { (side ≤ 9) × All (EntryOn side) givens.now }
+    requires { (side ≤ 9) × AllByRecursion (EntryOn side) givens.now }
     ensures { IfOk result (λ v. numbers_of v.items ≡ given_literals side givens.now) }
 {
     let mut literals = Vec::new(heap);

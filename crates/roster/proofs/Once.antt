@@ -1,6 +1,6 @@
 -- A record whose key is not there keeps every key single.
 use Rattle.std.proofs.Common.{◌≡◌, false, List, [], ◌∷◌, ◌++◌, Decides, ap}
-use Rattle.std.specs.List.{AllByRecursion as All}
+use Rattle.std.specs.List.{AllByRecursion}
 use Rattle.std.proofs.ByRecursion.{All-push}
 use Rattle.std.proofs.lemmas.Bool.{or_parts}
 use Rattle.std.proofs.lemmas.Bool.Decides.{not_from_Decides, Decides-eqb, Decides-and}
@@ -19,7 +19,7 @@ same_key_told j k = (
 
 module _ {X : Type 0} (key_of : X → Key) where
   -- a key that is not found is that of no record
-  pub not_found : (xs : List X) (k : Key) → has_key key_of xs k ≡ false → All (λ y. key_of y ≡ k → ⊥) xs
+  pub not_found : (xs : List X) (k : Key) → has_key key_of xs k ≡ false → AllByRecursion (λ y. key_of y ≡ k → ⊥) xs
   not_found [] k h = tt
   not_found (x ∷ xs) k h =
       let p = or_parts (same_key (key_of x) k) (has_key key_of xs k) h in

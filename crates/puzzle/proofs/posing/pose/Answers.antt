@@ -15,14 +15,14 @@ pose_sound-requires c =
     let r = refound v c.in-Ok.taken 81 162 c.read.new.givens c.read.new.claims c.read.new.signs (sym f.answer) f.givens f.claims f.signs in
     subst Sound (sym r.2) (taken_is ample_tables ws r.0 r.1).sound
 
-pub returns-in_ok-pose_sound : goal.returns-in_ok-pose_sound
-returns-in_ok-pose_sound c =
+pub returns-in_ok-pose_sound-in-Ok : goal.returns-in_ok-pose_sound-in-Ok
+returns-in_ok-pose_sound-in-Ok c =
     let ws = c.args.words.now in
     let v = read_list ample_tables ws in
     let f = c.in-Ok.ensures in
     let r = refound v c.in-Ok.taken 81 162 c.read.new.givens c.read.new.claims c.read.new.signs (sym f.answer) f.givens f.claims f.signs in
     record {
-      answer = (r.0, r.1, subst (λ (P : Puzzle). Poses P c.in_ok-pose_sound.field-0) r.2 c.in_ok-pose_sound.ensures);
+      answer = (r.0, r.1, subst (λ (P : Puzzle). Poses P c.in_ok-pose_sound-in-Ok.field-0) r.2 c.in_ok-pose_sound-in-Ok.ensures);
       forms = f.forms;
       means = f.means;
     }

@@ -1,5 +1,5 @@
 -- The first word of a list.
-use Rattle.std.proofs.Common.{◌≡◌, ℕ, ◌<◌, ◌≤◌, Bool, true, false, cond, List, [], ◌∷◌, length, get_or, drop, Some, None, Ok, Err, Result, sym, refl, ap, ◌∙◌, arith}
+use Rattle.std.proofs.Common.{◌≡◌, ℕ, ◌<◌, Bool, true, false, cond, List, [], ◌∷◌, length, get_or, drop, Some, None, Ok, Err, sym, refl, ap, ◌∙◌, arith}
 use Rattle.cnf.specs.declared.fault.Fault.{Fault}
 use Rattle.cnf.specs.declared.fault.Fault.TheVariants.{WordForm, BoardWord, EndWord}
 use Rattle.cnf.specs.Faults.{check_for}

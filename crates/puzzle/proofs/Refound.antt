@@ -1,7 +1,6 @@
 -- The records of a taken list, read back from the tables that it has filled.
-use Rattle.std.proofs.Common.{◌≡◌, ℕ, ◌-◌, List, ◌++◌, length, take, replicate, Ok, Err, sym, refl, ap, ◌∙◌, arith}
+use Rattle.std.proofs.Common.{◌≡◌, ℕ, ◌-◌, List, length, take, replicate, Ok, Err, sym, refl, ap, ◌∙◌, arith}
 use Rattle.std.proofs.lemmas.List.{take-append-le, take_all}
-use Rattle.cnf.specs.declared.fault.Fault.{Fault}
 use Rattle.futoshiki.specs.declared.sign.Sign.{Sign}
 use Rattle.roster.specs.Held.{laid_out}
 use Rattle.words.specs.declared.entry.Entry.{Entry}

@@ -1,14 +1,14 @@
 -- Reading under way: what is left gives the answer, and few words have been read.
-use Rattle.std.proofs.Common.{◌≡◌, ℕ, suc, ◌+◌, ◌*◌, ◌<◌, ◌≤◌, Bool, true, false, cond, ◌||◌, List, [], ◌∷◌, ◌++◌, length, get_or, drop, Some, None, Ok, Err, sym, refl, ap, ◌∙◌, arith}
+use Rattle.std.proofs.Common.{◌≡◌, ℕ, suc, ◌+◌, ◌*◌, ◌<◌, ◌≤◌, true, false, cond, List, length, get_or, drop, Some, None, Ok, Err, sym, refl, ap, ◌∙◌, arith}
 use Rattle.std.proofs.lemmas.Nat.{mul-le}
 use Rattle.std.proofs.lemmas.List.{at_drop_more, at_drop_all, length_push}
 use Rattle.cnf.specs.declared.fault.Fault.{Fault}
 use Rattle.cnf.specs.declared.fault.Fault.TheVariants.{WordForm, EndWord}
-use Rattle.cnf.specs.Faults.{Answer, accepted}
+use Rattle.cnf.specs.Faults.{accepted}
 use Rattle.words.specs.declared.item.Item.{Item}
 use Rattle.words.specs.declared.item.Item.TheVariants.{Board, Given, Claim, Less, End}
 use Rattle.words.specs.Layouts.{decoded}
-use Rattle.puzzle.specs.Reading.{Puzzle, Tables, State, Verdict, with_item, next_state, ends_list, item_answer, read_on, read_item, read_from, opened}
+use Rattle.puzzle.specs.Reading.{Tables, State, with_item, next_state, item_answer, read_on, read_item, read_from, opened}
 use Rattle.puzzle.specs.Accepted.{Registered}
 use Rattle.puzzle.proofs.Admission.{Admissible, admissible}
 use Rattle.puzzle.proofs.Gathered.{registered_more}

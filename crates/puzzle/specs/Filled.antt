@@ -5,7 +5,7 @@ use Rattle.futoshiki.specs.declared.sign.Sign.{Sign}
 use Rattle.roster.specs.Held.{laid_out}
 use Rattle.words.specs.declared.entry.Entry.{Entry}
 use Rattle.puzzle.specs.declared.taken.Taken.{Taken}
-use Rattle.puzzle.specs.Reading.{Puzzle, Tables, Verdict}
+use Rattle.puzzle.specs.Reading.{Tables, Verdict}
 
 -- the caller's tables, by their lengths
 abbrev pub tables_lent : List Entry → List Entry → List Sign → Tables

@@ -1,5 +1,5 @@
 -- What an accepted puzzle means: its source, its solutions, and the filling that its claims give.
-use Rattle.std.specs.Prelude.{◌≡◌, ℕ, ◌*◌, Bool, true, false, cond, List, [], ◌∷◌, map, pos, ◌==◌}
+use Rattle.std.specs.Prelude.{◌≡◌, ℕ, ◌*◌, Bool, cond, List, [], ◌∷◌, map, pos, ◌==◌}
 use Rattle.std.specs.List.{AllByRecursion}
 use Rattle.cnf.specs.Formula.{Clause}
 use Rattle.layers.specs.Fixed.{fixed_listing}

@@ -1,5 +1,5 @@
 -- What is proved of lists of words and of accepted puzzles.
-use Rattle.std.specs.Prelude.{◌≡◌, ℕ, ◌+◌, ◌*◌, ◌≤◌, ◌≢◌, ◌↔◌, List, [], ◌∷◌, ◌++◌, length, Ok, Err}
+use Rattle.std.specs.Prelude.{◌≡◌, ℕ, ◌+◌, ◌*◌, ◌≤◌, ◌≢◌, ◌↔◌, List, length, Ok, Err}
 use Rattle.cnf.specs.declared.fault.Fault.{Fault}
 use Rattle.cnf.specs.declared.fault.Fault.TheVariants.{TableFull}
 use Rattle.cnf.specs.Formula.{Assignment, Model, Lawful}

@@ -89,7 +89,7 @@ fn a_drawn_board_is_read_and_drawn_again(rt: HostRuntime) -> Result<(), Fail> {
     let claimed = &claims[0..taken.claim_count];
     let signed = &signs[0..taken.sign_count];
     let text = drawing_of(rt.alloc(), taken.side, given, claimed, signed)?;
-    assert!(rt; text.as_slice() == &DRAWN);
+    assert!(rt; text.as_slice() == DRAWN.as_slice());
     Ok(())
 }
 

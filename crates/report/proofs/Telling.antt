@@ -11,16 +11,14 @@ use Rattle.cnf.proofs.Accepting.{then_from, lawful_accepted}
 use Rattle.fillings.specs.Theorems.{clause_count}
 use Rattle.words.specs.Bytes.{words_in}
 use Rattle.puzzle.specs.Reading.{Puzzle, Verdict, read_list}
-use Rattle.puzzle.specs.Accepted.{Accepted}
 use Rattle.puzzle.specs.Refused.{Refused}
-use Rattle.puzzle.specs.Meaning.{puzzle_variables, puzzle_listing, Solves, claimed_filling, claim_bytes, ample_tables}
+use Rattle.puzzle.specs.Meaning.{puzzle_variables, puzzle_listing, claim_bytes, ample_tables}
 use Rattle.puzzle.specs.declared.task.Task.{Task}
 use Rattle.puzzle.specs.Poses.{fixed_variables, fixed_clauses, Poses}
 use Rattle.puzzle.specs.Theorems.{Stands}
 use Rattle.puzzle.proofs.Whole.{taken_is, is_taken}
 use Rattle.puzzle.proofs.Refusals.{refused_is}
 use Rattle.puzzle.proofs.Solving.{stands}
-use Rattle.report.specs.declared.verdict.Report.{Report}
 use Rattle.report.specs.declared.verdict.Report.TheVariants.{Source, Refusal}
 use Rattle.report.specs.Reported.{claim_report, list_report, reported}
 use Rattle.report.specs.Theorems.{ClaimKept, ReportMeans}

@@ -6,7 +6,7 @@ use Rattle.cnf.specs.Told.{told_variables, told_clauses}
 use Rattle.cnf.specs.Faults.{Answer}
 use Rattle.cnf.specs.Checks.{claim_answer}
 use Rattle.words.specs.Bytes.{words_in}
-use Rattle.puzzle.specs.Reading.{Puzzle, Verdict, read_list}
+use Rattle.puzzle.specs.Reading.{Verdict, read_list}
 use Rattle.puzzle.specs.Meaning.{puzzle_variables, puzzle_listing, claim_bytes, ample_tables}
 use Rattle.report.specs.declared.verdict.Report.{Report}
 use Rattle.report.specs.declared.verdict.Report.TheVariants.{Source, Refusal}

@@ -1,5 +1,5 @@
 -- What a word of each kind says, kind by kind.
-use Rattle.std.proofs.Common.{◌≡◌, ℕ, eqb, ◌≢◌, None, refl, ap}
+use Rattle.std.proofs.Common.{◌≡◌, ℕ, ◌≢◌, None}
 use Rattle.std.proofs.lemmas.Bool.{ne_eqb}
 use Rattle.words.specs.declared.item.Item.TheVariants.{Board, Given, Claim, Less, End}
 use Rattle.words.specs.Layouts.{field, kind_of, entry_in, sign_in, clean, decoded}

@@ -1,4 +1,4 @@
-use Rattle.std.proofs.Common.{◌≡◌, ℕ, ◌+◌, ◌*◌, eqb, List, ◌++◌, map, vec_items, sym, ap, ◌∙◌, arith}
+use Rattle.std.proofs.Common.{◌≡◌, ◌*◌, eqb, ◌++◌, map, ap, ◌∙◌, arith}
 use Rattle.futoshiki.specs.Board.{up_to}
 use Rattle.fillings.specs.Fillings.{filling_assignment}
 use Rattle.puzzle.specs.Meaning.{claim_at, byte_of, claim_bytes, claimed_filling}

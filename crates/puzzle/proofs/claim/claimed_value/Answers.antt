@@ -1,4 +1,4 @@
-use Rattle.std.proofs.Common.{◌≡◌, sym, ◌∙◌}
+use Rattle.std.proofs.Common.{sym, ◌∙◌}
 use Rattle.puzzle.proofs.Bytewise.{claim_here, claim_later, claim_nowhere}
 use Rattle.puzzle.proofs.claim.claimed_value.Goals as goal
 

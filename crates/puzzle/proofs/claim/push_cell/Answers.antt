@@ -1,4 +1,4 @@
-use Rattle.std.proofs.Common.{◌≡◌, ℕ, ◌+◌, eqb, List, [], ◌∷◌, ◌++◌, vec_items, sym, ap, ◌∙◌}
+use Rattle.std.proofs.Common.{ℕ, ◌+◌, eqb, List, [], ◌∷◌, ◌++◌, vec_items, ap, ◌∙◌}
 use Rattle.puzzle.specs.Meaning.{byte_of}
 use Rattle.puzzle.proofs.Bytewise.{value_more}
 use Rattle.puzzle.proofs.claim.push_cell.Goals as goal

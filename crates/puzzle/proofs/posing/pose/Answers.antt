@@ -1,4 +1,4 @@
-use Rattle.std.proofs.Common.{◌≡◌, sym, subst}
+use Rattle.std.proofs.Common.{sym, subst}
 use Rattle.puzzle.specs.Reading.{Puzzle, read_list}
 use Rattle.puzzle.specs.Accepted.{Sound}
 use Rattle.puzzle.specs.Meaning.{ample_tables}

@@ -1,4 +1,4 @@
-use Rattle.std.proofs.Common.{◌≡◌, cond, is_ok, sym, refl, ap, ◌∙◌}
+use Rattle.std.proofs.Common.{cond, is_ok, sym, refl, ap, ◌∙◌}
 use Rattle.roster.specs.declared.register.Register.{Register}
 use Rattle.roster.specs.Held.{records_in, slots_in}
 use Rattle.words.specs.declared.entry.Entry.{Entry}

@@ -1,4 +1,4 @@
-use Rattle.std.proofs.Common.{◌≡◌, ap, ◌∙◌}
+use Rattle.std.proofs.Common.{ap, ◌∙◌}
 use Rattle.cnf.specs.Faults.{Answer}
 use Rattle.cnf.specs.Checks.{claim_answer}
 use Rattle.puzzle.specs.Poses.{fixed_variables, fixed_clauses}

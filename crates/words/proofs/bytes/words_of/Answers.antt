@@ -1,4 +1,4 @@
-use Rattle.std.proofs.Common.{◌≡◌, ℕ, ◌+◌, List, [], ◌∷◌, ◌++◌, drop, vec_items, sym, ap, ◌∙◌, arith, rules}
+use Rattle.std.proofs.Common.{ℕ, ◌+◌, List, [], ◌∷◌, ◌++◌, drop, vec_items, ap, ◌∙◌, arith, rules}
 use Rattle.words.specs.Bytes.{words_in}
 use Rattle.words.proofs.Byting.{bytes_read, one_more, one_odd, none_odd}
 use Rattle.words.proofs.bytes.words_of.Goals as goal

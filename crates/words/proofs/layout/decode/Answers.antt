@@ -1,6 +1,5 @@
-use Rattle.std.proofs.Common.{◌≡◌, sym, ap, ◌∙◌, arith}
-use Rattle.words.specs.declared.entry.Entry.{Entry}
-use Rattle.words.specs.declared.item.Item.TheVariants.{Board, Given, Claim, Less, End}
+use Rattle.std.proofs.Common.{sym, ap, ◌∙◌, arith}
+use Rattle.words.specs.declared.item.Item.TheVariants.{Board, Given, Claim, Less}
 use Rattle.words.specs.Layouts.{field, clean}
 use Rattle.words.proofs.Layouting.{layouts}
 use Rattle.words.proofs.ByKind.{board_kind, given_kind, sign_kind, claim_kind, end_kind, other_kind}

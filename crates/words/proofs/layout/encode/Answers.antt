@@ -1,4 +1,4 @@
-use Rattle.std.proofs.Common.{◌≡◌, ◌*◌, ◌^◌, Some, sym, refl, subst}
+use Rattle.std.proofs.Common.{◌*◌, ◌^◌, Some, sym, refl, subst}
 use Rattle.words.specs.Laws.{Encoded}
 use Rattle.words.proofs.Encoding.{board_encoded, given_encoded, claim_encoded, sign_encoded, end_encoded}
 use Rattle.words.proofs.layout.encode.Goals as goal

@@ -4,7 +4,7 @@
 usage: python3 tools/respell.py [--list]      at the top of the repository
 
 Every hyphenated name that specs/ or the lemmas of proofs/ write, and that they do not take from the library, becomes
-`a_b` for `a-b` and `AnB` for `An-b`, there, in the answers and invariants of functions, and in the clauses of src/. Names that the
+`a_b` for `a-b` and `AnB` for `An-b` and `An_b`, there, in the answers and invariants of functions, and in the clauses of src/. Names that the
 check makes for goals and steps are left: they keep their hyphens. Comments, strings, edits, inputs and outputs are left; in docs/
 only names between backquotes are turned. With --list it writes nothing, prints the renamings, and names those that would fall together with another name.
 """
@@ -15,8 +15,9 @@ import sys
 
 NAME = re.compile(r"(?<![\w'\u2019\u00b7\u25cc-])[A-Za-z\u03b1-\u03c9][\w'\u2080-\u2089]*(?:-[\w'\u2080-\u2089]+)+(?![\w'-])")
 LIBRARY = re.compile(r"^\s*(?:pub )?(?:ghost )?use (?:Rattle\.std|native|mathlib|Prim|lib|denote)\b")
-# where the spelling of the rule falls together with another name
-APART = {}
+# a type that a script of the kit left half turned, where it is declared
+HALF = re.compile(r"^\s*(?:abbrev |unfoldable )?(?:pub )?(?:record |data )?([A-Z][A-Za-z0-9]*(?:_[A-Za-z0-9]+)+)(?= .*:)")
+WORD = re.compile(r"(?<![\w'-])[A-Z][A-Za-z0-9]*(?:_[A-Za-z0-9]+)+(?![\w'-])")
 
 
 def files(root, suffix):
@@ -55,9 +56,7 @@ RUST_COMMENT = re.compile(r"//")
 
 
 def respelled(name):
-    if name in APART:
-        return APART[name]
-    words = name.split("-")
+    words = re.split("[-_]", name) if name[0].isupper() else name.split("-")
     if words[0][0].isupper():
         return words[0] + "".join(w[:1].upper() + w[1:] for w in words[1:])
     return "_".join(words)
@@ -80,7 +79,7 @@ def turned(text, comment, names, kept):
         if LIBRARY.match(line):
             out.append(line)
             continue
-        out.append("".join(NAME.sub(one, part) if turn else part for part, turn in parts_of(line, comment)))
+        out.append("".join(WORD.sub(one, NAME.sub(one, part)) if turn else part for part, turn in parts_of(line, comment)))
     return "\n".join(out)
 
 
@@ -101,7 +100,7 @@ def own_names(root):
                 continue
             for part, turn in parts_of(line, ANTT_COMMENT):
                 if turn:
-                    names |= set(NAME.findall(part)) - kept
+                    names |= (set(NAME.findall(part)) | set(HALF.findall(part))) - kept
     return names
 
 
@@ -150,9 +149,13 @@ def main(argv):
             with open(path, "w", encoding="utf-8") as f:
                 f.write(new)
             changed += 1
+
+    def one(m):
+        return respelled(m.group()) if m.group() in names else m.group()
+
     for path in sorted(os.path.join("docs", f) for f in os.listdir("docs") if f.endswith(".md")) + ["README.md"]:
         text = read(path)
-        new = re.sub(r"`[^`\n]+`", lambda m: NAME.sub(lambda n: respelled(n.group()) if n.group() in names else n.group(), m.group()), text)
+        new = re.sub(r"`[^`\n]+`", lambda m: WORD.sub(one, NAME.sub(one, m.group())), text)
         if new != text:
             with open(path, "w", encoding="utf-8") as f:
                 f.write(new)

@@ -10,7 +10,7 @@ use Rattle.cnf.proofs.Cuts.{length_numbers, cut_in, cut_falls}
 use Rattle.futoshiki.specs.declared.draft.Draft.{Draft}
 use Rattle.futoshiki.specs.Board.{up_to}
 use Rattle.futoshiki.proofs.Stepping.{joined_up_more}
-use Rattle.futoshiki.specs.Drafts.{EndsFrom, EndsAt, BetweenClauses, draft_listing, Goes_on, HasMore, HasEnded}
+use Rattle.futoshiki.specs.Drafts.{EndsFrom, EndsAt, BetweenClauses, draft_listing, GoesOn, HasMore, HasEnded}
 
 -- more literals leave a clause as it was
 cut_before : (ls c : Clause) (a b : ℕ) → b ≤ length ls → cut_out (ls ++ c) a b ≡ cut_out ls a b
@@ -103,24 +103,24 @@ module _ (a b d : Draft) (c : Clause) (ready : BetweenClauses a) (p : HasMore a 
       let k : EndsAt (vec_len b.literals) (vec_items d.starts) = subst (λ ts. P (vec_len b.literals) ts) (sym starts_after) h in
       subst (λ n. P n (vec_items d.starts)) (sym same_length) k
 
-  pub goes_clause : (most : ℕ) → length c ≤ most → Goes_on a d (c ∷ []) most
+  pub goes_clause : (most : ℕ) → length c ≤ most → GoesOn a d (c ∷ []) most
   goes_clause most h = record {
     between = ready_after;
     lists = ap (λ xs. tabled (numbers_of xs) (vec_items d.starts)) q.same_literals ∙ ap (λ xs. tabled xs (vec_items d.starts)) p.more_literals ∙ ap (tabled (ls ++ c)) starts_after ∙ tabled_more ls c ss (vec_len b.literals) ready_numbers long;
     few_literals = let m = more_counted a b c p in let s = same_length in let t = d.literals.ok.0 in omega arith;
   }
 
-pub goes_nowhere : (d : Draft) → BetweenClauses d → Goes_on d d [] 0
+pub goes_nowhere : (d : Draft) → BetweenClauses d → GoesOn d d [] 0
 goes_nowhere d b = record { between = b; lists = sym (append-nil (draft_listing d)); few_literals = omega arith }
 
-pub goes_then : (a b c : Draft) (cs ds es : List Clause) (m k n : ℕ) → Goes_on a b cs m → Goes_on b c ds k → cs ++ ds ≡ es → m + k ≤ n → Goes_on a c es n
+pub goes_then : (a b c : Draft) (cs ds es : List Clause) (m k n : ℕ) → GoesOn a b cs m → GoesOn b c ds k → cs ++ ds ≡ es → m + k ≤ n → GoesOn a c es n
 goes_then a b c cs ds es m k n p q e h = record {
   between = q.between;
   lists = q.lists ∙ ap (λ x. x ++ ds) p.lists ∙ append_assoc (draft_listing a) cs ds ∙ ap (λ x. draft_listing a ++ x) e;
   few_literals = let x = p.few_literals in let y = q.few_literals in omega arith;
 }
 
-pub goes_as : (a b : Draft) (cs ds : List Clause) (m n : ℕ) → Goes_on a b cs m → cs ≡ ds → m ≤ n → Goes_on a b ds n
+pub goes_as : (a b : Draft) (cs ds : List Clause) (m n : ℕ) → GoesOn a b cs m → cs ≡ ds → m ≤ n → GoesOn a b ds n
 goes_as a b cs ds m n p e h = record {
   between = p.between;
   lists = p.lists ∙ ap (λ x. draft_listing a ++ x) e;
@@ -129,13 +129,13 @@ goes_as a b cs ds m n p e h = record {
 
 -- one turn of a loop over 1, 2, ..: one clause, or some clauses, for each number
 module _ (a b c : Draft) (i per : ℕ) where
-  pub one_more : (f : ℕ → Clause) {clause : Clause} → Goes_on a b (map f (up_to i)) (per * i) → Goes_on b c (clause ∷ []) per → clause ≡ f (i + 1) → Goes_on a c (map f (up_to (i + 1))) (per * (i + 1))
+  pub one_more : (f : ℕ → Clause) {clause : Clause} → GoesOn a b (map f (up_to i)) (per * i) → GoesOn b c (clause ∷ []) per → clause ≡ f (i + 1) → GoesOn a c (map f (up_to (i + 1))) (per * (i + 1))
   one_more f {clause} p q e =
       goes_then a b c (map f (up_to i)) (clause ∷ []) (map f (up_to (i + 1))) (per * i) per (per * (i + 1)) p q
       (ap (λ x. map f (up_to i) ++ x ∷ []) e ∙ sym (map-range_with_len_more f 1 i (i + 1) (omega arith)))
       (omega (arith, mul-add per i 1, mul-one per))
 
-  pub group_more : (g : ℕ → List Clause) {cs : List Clause} → Goes_on a b (flat_map g (up_to i)) (per * i) → Goes_on b c cs per → cs ≡ g (i + 1) → Goes_on a c (flat_map g (up_to (i + 1))) (per * (i + 1))
+  pub group_more : (g : ℕ → List Clause) {cs : List Clause} → GoesOn a b (flat_map g (up_to i)) (per * i) → GoesOn b c cs per → cs ≡ g (i + 1) → GoesOn a c (flat_map g (up_to (i + 1))) (per * (i + 1))
   group_more g {cs} p q e =
       goes_then a b c (flat_map g (up_to i)) cs (flat_map g (up_to (i + 1))) (per * i) per (per * (i + 1)) p q
       (ap (λ x. flat_map g (up_to i) ++ x) e ∙ sym (joined_up_more g i))
@@ -143,19 +143,19 @@ module _ (a b c : Draft) (i per : ℕ) where
 
 -- the end of such a loop
 module _ (a b : Draft) (i n per most : ℕ) (e : i ≡ n) (h : per * n ≤ most) where
-  pub ones_done : (f : ℕ → Clause) → Goes_on a b (map f (up_to i)) (per * i) → Goes_on a b (map f (up_to n)) most
+  pub ones_done : (f : ℕ → Clause) → GoesOn a b (map f (up_to i)) (per * i) → GoesOn a b (map f (up_to n)) most
   ones_done f p = goes_as a b (map f (up_to i)) (map f (up_to n)) (per * i) most p (ap (λ k. map f (up_to k)) e) (omega (arith, ap (λ k. per * k) e))
 
-  pub groups_done : (g : ℕ → List Clause) → Goes_on a b (flat_map g (up_to i)) (per * i) → Goes_on a b (flat_map g (up_to n)) most
+  pub groups_done : (g : ℕ → List Clause) → GoesOn a b (flat_map g (up_to i)) (per * i) → GoesOn a b (flat_map g (up_to n)) most
   groups_done g p = goes_as a b (flat_map g (up_to i)) (flat_map g (up_to n)) (per * i) most p (ap (λ k. flat_map g (up_to k)) e) (omega (arith, ap (λ k. per * k) e))
 
 -- one turn of a loop over a list, and its end
 module _ {X : Type 0} (g : X → List Clause) (xs : List X) (a b : Draft) (i per : ℕ) where
-  pub each_more : (c : Draft) (d : X) → i < length xs → Goes_on a b (flat_map g (take i xs)) (per * i) → Goes_on b c (g (get_or xs i d)) per → Goes_on a c (flat_map g (take (i + 1) xs)) (per * (i + 1))
+  pub each_more : (c : Draft) (d : X) → i < length xs → GoesOn a b (flat_map g (take i xs)) (per * i) → GoesOn b c (g (get_or xs i d)) per → GoesOn a c (flat_map g (take (i + 1) xs)) (per * (i + 1))
   each_more c d h p q =
       goes_then a b c (flat_map g (take i xs)) (g (get_or xs i d)) (flat_map g (take (i + 1) xs)) (per * i) per (per * (i + 1)) p q
       (flat_map_more g [] (take i xs) (get_or xs i d) ∙ ap (flat_map g) (sym (take_more xs i d h)))
       (omega (arith, mul-add per i 1, mul-one per))
 
-  pub each_done : (most : ℕ) → length xs ≤ i → per * i ≤ most → Goes_on a b (flat_map g (take i xs)) (per * i) → Goes_on a b (flat_map g xs) most
+  pub each_done : (most : ℕ) → length xs ≤ i → per * i ≤ most → GoesOn a b (flat_map g (take i xs)) (per * i) → GoesOn a b (flat_map g xs) most
   each_done most h l p = goes_as a b (flat_map g (take i xs)) (flat_map g xs) (per * i) most p (ap (flat_map g) (take_all i xs h)) l

@@ -30,7 +30,7 @@ abbrev pub draft_listing : Draft → List Clause
 draft_listing d = tabled (numbers_of (vec_items d.literals)) (vec_items d.starts)
 
 -- a draft goes on: it lists these clauses more, which have at most so many literals
-pub record Goes_on (before after : Draft) (cs : List Clause) (most : ℕ) : Type 0 where
+pub record GoesOn (before after : Draft) (cs : List Clause) (most : ℕ) : Type 0 where
   pub between : BetweenClauses after
   pub lists : draft_listing after ≡ draft_listing before ++ cs
   pub few_literals : vec_len after.literals ≤ vec_len before.literals + most

@@ -1,7 +1,7 @@
 ghost use Rattle.std.specs.Prelude.{◌≡◌, ◌+◌, ◌*◌, ◌≤◌, [], ◌∷◌, pos, neg_ℤ, IfOk, vec_len, OnOk};
 ghost use Rattle.std.specs.List.{range_with_len};
 ghost use Rattle.futoshiki.specs.Listing.{not_both, one_of};
-ghost use Rattle.futoshiki.specs.Drafts.{BetweenClauses, RoomFor, draft_listing, Goes_on, HasMore, HasEnded, not_with_next, no_two_stepped};
+ghost use Rattle.futoshiki.specs.Drafts.{BetweenClauses, RoomFor, draft_listing, GoesOn, HasMore, HasEnded, not_with_next, no_two_stepped};
 
 use cnf::Literal;
 use std::alloc::{AllocError, Global};
@@ -54,7 +54,7 @@ impl Draft {
         requires between { BetweenClauses self.old }
         requires room { RoomFor self.old 2 }
         requires small { (x ≤ 10000) × (y ≤ 10000) }
-        ensures { OnOk result (Goes_on self.old self.new (not_both x y ∷ []) 2) }
+        ensures { OnOk result (GoesOn self.old self.new (not_both x y ∷ []) 2) }
     {
         self.put(denial(x))?;
         self.put(denial(y))?;
@@ -66,7 +66,7 @@ impl Draft {
         requires between { BetweenClauses self.old }
         requires room { RoomFor self.old 9 }
         requires small { (first ≤ 10000) × (count ≤ 9) }
-        ensures { OnOk result (Goes_on self.old self.new (one_of (range_with_len first count) ∷ []) 9) }
+        ensures { OnOk result (GoesOn self.old self.new (one_of (range_with_len first count) ∷ []) 9) }
     {
         for v in 0..count {
             self.put(Literal((first + v) as i32))?;
@@ -79,7 +79,7 @@ impl Draft {
         requires between { BetweenClauses self.old }
         requires room { RoomFor self.old 18 }
         requires small { (x ≤ 5000) × (step ≤ 81) × (later ≤ 9) }
-        ensures { OnOk result (Goes_on self.old self.new (not_with_next x step later) 18) }
+        ensures { OnOk result (GoesOn self.old self.new (not_with_next x step later) 18) }
     {
         for k in 0..later {
             self.not_both(x, x + (k + 1) * step)?;
@@ -92,7 +92,7 @@ impl Draft {
         requires between { BetweenClauses self.old }
         requires room { RoomFor self.old 162 }
         requires small { (first ≤ 1000) × (step ≤ 81) × (count ≤ 9) }
-        ensures { OnOk result (Goes_on self.old self.new (no_two_stepped first step count) 162) }
+        ensures { OnOk result (GoesOn self.old self.new (no_two_stepped first step count) 162) }
     {
         for j in 0..count {
             self.not_with_next(first + j * step, step, count - (j + 1))?;

@@ -3,7 +3,7 @@ ghost use Rattle.std.specs.List.{flat_map, AllByRecursion};
 ghost use Rattle.futoshiki.specs.Board.{up_to};
 ghost use Rattle.futoshiki.specs.Rules.{OnBoard, Rules};
 ghost use Rattle.futoshiki.specs.Listing.{once_in_row, once_in_column, some_values, single_values, row_clauses, column_clauses, sign_clauses, five_groups};
-ghost use Rattle.futoshiki.specs.Drafts.{BetweenClauses, RoomFor, Goes_on, not_with_after};
+ghost use Rattle.futoshiki.specs.Drafts.{BetweenClauses, RoomFor, GoesOn, not_with_after};
 
 use crate::draft::Draft;
 use crate::sign::Sign;
@@ -15,7 +15,7 @@ impl Draft {
         requires between { BetweenClauses self.old }
         requires room { RoomFor self.old 729 }
         requires small { side ≤ 9 }
-        ensures { OnOk result (Goes_on self.old self.new (some_values side) 729) }
+        ensures { OnOk result (GoesOn self.old self.new (some_values side) 729) }
     {
         for i in 0..side * side {
             self.one_of(i * side + 1, side)?;
@@ -28,7 +28,7 @@ impl Draft {
         requires between { BetweenClauses self.old }
         requires room { RoomFor self.old 13122 }
         requires small { side ≤ 9 }
-        ensures { OnOk result (Goes_on self.old self.new (single_values side) 13122) }
+        ensures { OnOk result (GoesOn self.old self.new (single_values side) 13122) }
     {
         for i in 0..side * side {
             self.no_two(i * side + 1, 1, side)?;
@@ -41,7 +41,7 @@ impl Draft {
         requires between { BetweenClauses self.old }
         requires room { RoomFor self.old 1458 }
         requires small { (side ≤ 9) × (r < side) }
-        ensures { OnOk result (Goes_on self.old self.new (flat_map (once_in_row side (r + 1)) (up_to side)) 1458) }
+        ensures { OnOk result (GoesOn self.old self.new (flat_map (once_in_row side (r + 1)) (up_to side)) 1458) }
     {
         for v in 0..side {
             self.no_two(r * side * side + v + 1, side, side)?;
@@ -54,7 +54,7 @@ impl Draft {
         requires between { BetweenClauses self.old }
         requires room { RoomFor self.old 13122 }
         requires small { side ≤ 9 }
-        ensures { OnOk result (Goes_on self.old self.new (row_clauses side) 13122) }
+        ensures { OnOk result (GoesOn self.old self.new (row_clauses side) 13122) }
     {
         for r in 0..side {
             self.row_once(side, r)?;
@@ -67,7 +67,7 @@ impl Draft {
         requires between { BetweenClauses self.old }
         requires room { RoomFor self.old 1458 }
         requires small { (side ≤ 9) × (c < side) }
-        ensures { OnOk result (Goes_on self.old self.new (flat_map (once_in_column side (c + 1)) (up_to side)) 1458) }
+        ensures { OnOk result (GoesOn self.old self.new (flat_map (once_in_column side (c + 1)) (up_to side)) 1458) }
     {
         for v in 0..side {
             self.no_two(c * side + v + 1, side * side, side)?;
@@ -80,7 +80,7 @@ impl Draft {
         requires between { BetweenClauses self.old }
         requires room { RoomFor self.old 13122 }
         requires small { side ≤ 9 }
-        ensures { OnOk result (Goes_on self.old self.new (column_clauses side) 13122) }
+        ensures { OnOk result (GoesOn self.old self.new (column_clauses side) 13122) }
     {
         for c in 0..side {
             self.column_once(side, c)?;
@@ -93,7 +93,7 @@ impl Draft {
         requires between { BetweenClauses self.old }
         requires room { RoomFor self.old 18 }
         requires small { (x ≤ 1000) × (y ≤ 1000) × (count ≤ 9) }
-        ensures { OnOk result (Goes_on self.old self.new (not_with_after x y count) 18) }
+        ensures { OnOk result (GoesOn self.old self.new (not_with_after x y count) 18) }
     {
         for b in 0..count {
             self.not_both(x, y + (b + 1))?;
@@ -106,7 +106,7 @@ impl Draft {
         requires between { BetweenClauses self.old }
         requires room { RoomFor self.old 162 }
         requires small { (side ≤ 9) × OnBoard side sign }
-        ensures { OnOk result (Goes_on self.old self.new (sign_clauses side sign) 162) }
+        ensures { OnOk result (GoesOn self.old self.new (sign_clauses side sign) 162) }
     {
         let lesser = (u32::from(sign.lesser) - 1) * side;
         let greater = (u32::from(sign.greater) - 1) * side;
@@ -121,7 +121,7 @@ impl Draft {
         requires between { BetweenClauses self.old }
         requires room { RoomFor self.old 26244 }
         requires small { (side ≤ 9) × (length signs.now ≤ 162) × AllByRecursion (OnBoard side) signs.now }
-        ensures { OnOk result (Goes_on self.old self.new (flat_map (sign_clauses side) signs.now) 26244) }
+        ensures { OnOk result (GoesOn self.old self.new (flat_map (sign_clauses side) signs.now) 26244) }
     {
         for s in signs {
             self.sign_holds(side, *s)?;
@@ -134,7 +134,7 @@ impl Draft {
         requires between { BetweenClauses self.old }
         requires room { RoomFor self.old 99000 }
         requires kept { Rules side signs.now }
-        ensures { OnOk result (Goes_on self.old self.new (five_groups side signs.now) 99000) }
+        ensures { OnOk result (GoesOn self.old self.new (five_groups side signs.now) 99000) }
     {
         self.some_values(side)?;
         self.single_values(side)?;

@@ -91,6 +91,10 @@ costs_table ps (e ∷ es) long fit =
     let r = costs_table ps es (λ k l. long (suc k) (omega arith)) (λ k l. fit (suc k) (omega arith)) in
     omega arith
 
+-- chains beside which so many pages are free cost no more than there are
+pub table_within : (ps : List Page) (free : ℕ) (es : List Entry) → free + page_total es ≡ 1024 → TrueSizes ps es → FittingPages es → costs paged_kind (table_of ps es) ≤ paged_kind.units
+table_within ps free es all long fit = let c = costs_table ps es long fit in omega arith
+
 -- a directory has no more entries than pages
 pub few_entries : (es : List Entry) → FittingPages es → length es ≤ page_total es
 few_entries [] fit = omega arith

@@ -1,4 +1,4 @@
-ghost use Rattle.std.specs.Prelude.{◌≡◌, ℕ, ◌+◌, ◌*◌, ◌/◌, ◌%◌, ◌<◌, ◌≤◌, length, get_or, slice_index_or};
+ghost use Rattle.std.specs.Prelude.{◌≡◌, ℕ, ◌+◌, ◌*◌, ◌/◌, ◌%◌, ◌<◌, ◌≤◌, length, slice_index_or};
 ghost use Rattle.pages.specs.Chained.{no_literal, no_page, page_next, page_chain, page_after, times_in, pages_for, FullPages, LinkedLine};
 
 use cnf::Literal;
@@ -81,7 +81,7 @@ pub(super) fn fill(pages: &mut [Page; 1024], head: u16, need: u16, literals: &[L
     ensures links { (k : ℕ) → page_next pages.new k ≡ page_next pages.old k }
     ensures full { FullPages pages.new 1024 }
     ensures others { (k : ℕ) → times_in k (page_chain pages.old need head) ≡ 0 → slice_index_or pages.new k no_page ≡ slice_index_or pages.old k no_page }
-    ensures text { (q : ℕ) → q < 8 * need → q < length literals.now → slice_index_or (get_or pages.new (page_after pages.old (q / 8) head) no_page).literals (q % 8) no_literal ≡ slice_index_or literals.now q no_literal }
+    ensures text { (q : ℕ) → q < 8 * need → q < length literals.now → slice_index_or (slice_index_or pages.new (page_after pages.old (q / 8) head) no_page).literals (q % 8) no_literal ≡ slice_index_or literals.now q no_literal }
 {
     let mut p = head;
     for i in 0..need {

@@ -1,8 +1,8 @@
 ghost use Rattle.pages.specs.Chained.{paged_kind};
 ghost use Rattle.pages.specs.Meant.{paged_table};
-ghost use Rattle.pages.specs.Places.{ascending_table, costs_table};
-ghost use Rattle.std.proofs.Common.{arith, rules};
+ghost use Rattle.pages.specs.Places.{ascending_table, table_within};
 ghost use Rattle.pages.specs.Owners.{true_sizes};
+ghost use Rattle.std.proofs.Common.{rules};
 
 use crate::page::{PAGES, all_pages};
 use crate::paged::PagedStore;
@@ -14,15 +14,11 @@ impl Store for PagedStore {
 
     ghost table = { paged_table };
 
-    ghost unit = { first_of (Prim.search rules, Prim.grind (arith, Self.row.coded.inj)) };
+    ghost unit = { Prim.search rules };
 
     ghost ascending = { λ s. ascending_table s.pages s.directory.items s.order };
 
-    ghost within = { λ s.
-        let es = s.directory.items in
-        let c = costs_table s.pages es (true_sizes s.pages s.first s.spare es 1024 s.none s.full s.fitting) s.fitting in
-        let a = s.all in
-        omega arith };
+    ghost within = { λ s. table_within s.pages s.spare s.directory.items s.all (true_sizes s.pages s.first s.spare s.directory.items 1024 s.none s.full s.fitting) s.fitting };
 
     fn put(&mut self, id: ClauseId, literals: &[Literal]) -> Result<(), Fault> {
         match self.admit(id.0, literals) {

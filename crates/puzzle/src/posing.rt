@@ -65,8 +65,9 @@ fn pose_sound(
 }
 
 /// The task that a puzzle's words pose: the source of a taken list with its claim, or the fault of a refused one; only for a
-/// taken list can memory be short. Its tables are never full. For a taken list the source is lawful, its models are exactly the assignments of the fillings that keep rules
-/// and givens, one for one, and the claim is the assignment of the claimed filling.
+/// taken list can memory be short. Its tables are never full. For a taken list the source is lawful, its models are exactly
+/// the assignments of the fillings that keep rules and givens, one for one, and the claim is the assignment of the claimed
+/// filling.
 pub fn pose(heap: Global, words: &[u32]) -> Result<Result<Task, Fault>, AllocError>
     ensures answer { MatchResult result (Posed (read_list ample_tables words.now)) (λ _. is_ok (read_list ample_tables words.now) ≡ true) }
     ensures forms { ListRead ample_tables words.now }

@@ -17,8 +17,8 @@ abbrev pub laid_out : {X : Type 0} → X → ℕ → List X → List X
 laid_out blank_slot slots_there xs = xs ++ replicate (slots_there - length xs) blank_slot
 
 -- the table of a register holds its records, and is blank after them
-abbrev pub Laid_out : {X : Type 0} → Register X → Type 0
-Laid_out s = s.slots.now ≡ laid_out s.blank (slots_in s) (records_in s)
+abbrev pub LaidOut : {X : Type 0} → Register X → Type 0
+LaidOut s = s.slots.now ≡ laid_out s.blank (slots_in s) (records_in s)
 
 -- what an insertion answers, from whether the key is there, the number of records and that of slots: the key comes first
 abbrev pub insert_answer : Bool → ℕ → ℕ → Result (Unit {0}) Refusal

@@ -60,6 +60,10 @@ costs_rows (e ∷ es) =
     let o = cost_one (clause_of e) (omega arith) in
     omega arith
 
+-- as many entries as there are units cost no more than these
+pub rows_within : (es : List Entry) (n : ℕ) → n ≡ length es → n ≤ 64 → costs flat_kind (rows_of es) ≤ flat_kind.units
+rows_within es n is few = let c = costs_rows es in omega arith
+
 -- what stands where a search has found the id
 pub found_here : (i : ℕ) (es : List Entry) (p : ℕ) (e : Entry) → FoundPlace i es (Ok p) → e ≡ slice_index_or es p e → Here (place_in i (rows_of es)) i (rows_of es) (row_of e)
 found_here i es p e f q =

@@ -1,8 +1,8 @@
 ghost use Rattle.std.specs.Prelude.{◌≡◌, ◌≤◌, true, [], IfOk, vec_len, vec_capacity};
 ghost use Rattle.store.specs.Rows.{flat_kind, rows_of, ids_ascend, place_in, FoundPlace};
 ghost use Rattle.store.specs.Places.{ascending_from};
-ghost use Rattle.std.proofs.Common.{arith, rules};
-ghost use Rattle.store.specs.Stands.{costs_rows};
+ghost use Rattle.store.specs.Stands.{rows_within};
+ghost use Rattle.std.proofs.Common.{rules};
 
 use crate::entry::Entry;
 use crate::store::Store;
@@ -68,14 +68,11 @@ impl Store for FlatStore {
 
     ghost table = { λ s. rows_of s.entries.items };
 
-    ghost unit = { first_of (Prim.search rules, Prim.grind (arith, Self.row.coded.inj)) };
+    ghost unit = { Prim.search rules };
 
     ghost ascending = { λ s. ascending_from 0 (rows_of s.entries.items) s.ordered };
 
-    ghost within = { λ s.
-        let n = costs_rows s.entries.items in
-        let m = s.entries.ok.0 in
-        omega arith };
+    ghost within = { λ s. rows_within s.entries.items _ s.entries.ok.0 s.few };
 
     fn put(&mut self, id: ClauseId, literals: &[Literal]) -> Result<(), Fault> {
         let Err(at) = self.find(id) else {

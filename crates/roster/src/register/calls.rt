@@ -1,6 +1,6 @@
 ghost use Rattle.std.specs.Prelude.{◌≡◌, [], ◌∷◌, ◌++◌, length, replicate, is_ok, if◌then◌else◌};
 ghost use Rattle.roster.specs.Keys.{has_key, NoKeyTwice};
-ghost use Rattle.roster.specs.Held.{records_in, slots_in, Laid_out, insert_answer};
+ghost use Rattle.roster.specs.Held.{records_in, slots_in, LaidOut, insert_answer};
 
 use super::Register;
 use crate::key::Key;
@@ -29,7 +29,7 @@ impl<'a, R: Record> Register<'a, R> {
     /// The number of records.
     pub fn len(&self) -> usize
         ensures count { result ≡ length (records_in self.now) }
-        ensures table { Laid_out self.now }
+        ensures table { LaidOut self.now }
     {
         self.used
     }

@@ -3,7 +3,7 @@ use Rattle.std.specs.List.{range_with_len}
 use Rattle.std.proofs.lemmas.List.FromFn.{map-range_with_len_more, length-map-range_with_len}
 use Rattle.std.proofs.lemmas.Result.{IfOk-weaker}
 use Rattle.futoshiki.specs.Listing.{one_of}
-use Rattle.futoshiki.specs.Drafts.{Goes_on, HasMore, HasEnded}
+use Rattle.futoshiki.specs.Drafts.{GoesOn, HasMore, HasEnded}
 use Rattle.futoshiki.proofs.Stepping.{asserted_number}
 use Rattle.futoshiki.proofs.Growing.{more_none, more_then, more_counted, goes_clause}
 use Rattle.futoshiki.proofs.draft.Draft.one_of.Goals as goal
@@ -32,6 +32,6 @@ returns c =
     let e : c.loop-v.v ≡ c.args.count = omega arith in
     let P : ℕ → Type 0 = λ n. HasMore start c.loop-v.self (one_of (range_with_len c.args.first n)) in
     let l = length-map-range_with_len pos c.args.first c.args.count in
-    IfOk-weaker c.end.result (λ _. HasEnded c.loop-v.self c.end.new.self) (λ _. Goes_on start c.end.new.self (clause ∷ []) 9)
+    IfOk-weaker c.end.result (λ _. HasEnded c.loop-v.self c.end.new.self) (λ _. GoesOn start c.end.new.self (clause ∷ []) 9)
     (λ _ ended. goes_clause start c.loop-v.self c.end.new.self clause c.requires.between (subst P e c.loop-v.invariant) ended 9 (omega arith))
     c.end.ensures

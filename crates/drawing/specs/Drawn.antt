@@ -32,9 +32,9 @@ whole_length N = (2 * N + 1) * line_width N
 
 -- whether a byte may stand in a column of a frame line: a sign only between two rows, in the middle under a cell
 abbrev pub frame_fits : ℕ → ℕ → ℕ → ℕ → Bool
-frame_fits N line_at_lem column_at b =
+frame_fits N line_at column_at b =
     cond (column_at % 4 == 0) (b == 43)
-    (b == 45 || (column_at % 4 == 2 && nat_lt 0 line_at_lem && nat_lt line_at_lem (2 * N) && (b == 94 || b == 118)))
+    (b == 45 || (column_at % 4 == 2 && nat_lt 0 line_at && nat_lt line_at (2 * N) && (b == 94 || b == 118)))
 
 -- whether a byte may stand in a column of a row of cells, by the byte two places before it: a sign only between two cells, a closing bracket exactly where an opening one stands
 abbrev pub row_fits : ℕ → ℕ → ℕ → ℕ → Bool
@@ -46,9 +46,9 @@ row_fits N column_at b opening =
 
 -- whether a byte may stand in a line and a column
 abbrev pub byte_fits : ℕ → ℕ → ℕ → ℕ → ℕ → Bool
-byte_fits N line_at_lem column_at b opening =
+byte_fits N line_at column_at b opening =
     cond (column_at == 4 * N + 1) (b == 10)
-    (cond (line_at_lem % 2 == 0) (frame_fits N line_at_lem column_at b) (row_fits N column_at b opening))
+    (cond (line_at % 2 == 0) (frame_fits N line_at column_at b) (row_fits N column_at b opening))
 
 -- whether the byte at a place may stand there
 unfoldable pub fits_place : ℕ → List ℕ → ℕ → Bool

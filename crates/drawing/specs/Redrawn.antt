@@ -37,23 +37,23 @@ cell_in N row_at column_at = row_at * N + column_at + 1
 
 -- the byte in a column of a frame line: under a cell and between two rows their sign
 abbrev pub frame_byte : ℕ → List Sign → ℕ → ℕ → ℕ
-frame_byte N ss line_at_lem column_at =
+frame_byte N ss line_at column_at =
     cond (column_at % 4 == 0) 43
-    (cond (column_at % 4 == 2 && nat_lt 0 line_at_lem && nat_lt line_at_lem (2 * N))
-    (byte_between ss (cell_in N (line_at_lem / 2 - 1) (column_at / 4)) (cell_in N (line_at_lem / 2 - 1) (column_at / 4) + N) 94 118 45) 45)
+    (cond (column_at % 4 == 2 && nat_lt 0 line_at && nat_lt line_at (2 * N))
+    (byte_between ss (cell_in N (line_at / 2 - 1) (column_at / 4)) (cell_in N (line_at / 2 - 1) (column_at / 4) + N) 94 118 45) 45)
 
 -- the byte in a column of a row of cells: between two cells their sign; in a cell its value, in brackets where it is given
 abbrev pub row_byte : ℕ → Puzzle → ℕ → ℕ → ℕ
-row_byte N P line_at_lem column_at =
+row_byte N P line_at column_at =
     cond (column_at % 4 == 0)
-    (cond (nat_lt 0 column_at && nat_lt column_at (4 * N)) (byte_between P.signs (cell_in N (line_at_lem / 2) (column_at / 4 - 1)) (cell_in N (line_at_lem / 2) (column_at / 4 - 1) + 1) 60 62 124) 124)
-    (cond (column_at % 4 == 1) (cond (is_given P.givens (cell_in N (line_at_lem / 2) (column_at / 4))) 91 32)
-    (cond (column_at % 4 == 2) (48 + claim_at P.claims (cell_in N (line_at_lem / 2) (column_at / 4)) % 10)
-    (cond (is_given P.givens (cell_in N (line_at_lem / 2) (column_at / 4))) 93 32)))
+    (cond (nat_lt 0 column_at && nat_lt column_at (4 * N)) (byte_between P.signs (cell_in N (line_at / 2) (column_at / 4 - 1)) (cell_in N (line_at / 2) (column_at / 4 - 1) + 1) 60 62 124) 124)
+    (cond (column_at % 4 == 1) (cond (is_given P.givens (cell_in N (line_at / 2) (column_at / 4))) 91 32)
+    (cond (column_at % 4 == 2) (48 + claim_at P.claims (cell_in N (line_at / 2) (column_at / 4)) % 10)
+    (cond (is_given P.givens (cell_in N (line_at / 2) (column_at / 4))) 93 32)))
 
 -- the byte in a line and a column
 abbrev pub byte_in : ℕ → Puzzle → ℕ → ℕ → ℕ
-byte_in N P line_at_lem column_at = cond (column_at == 4 * N + 1) 10 (cond (line_at_lem % 2 == 0) (frame_byte N P.signs line_at_lem column_at) (row_byte N P line_at_lem column_at))
+byte_in N P line_at column_at = cond (column_at == 4 * N + 1) 10 (cond (line_at % 2 == 0) (frame_byte N P.signs line_at column_at) (row_byte N P line_at column_at))
 
 -- the byte at a place
 unfoldable pub drawn_byte : Puzzle → ℕ → ℕ

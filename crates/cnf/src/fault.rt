@@ -28,7 +28,7 @@ pub enum Fault {
     ClaimForm(u32),
     /// The first clause that is false under the claim.
     ClaimFalse(u32),
-    /// A file or a page has more than 65,536 bytes.
+    /// A file has more than 65,536 bytes.
     TooManyBytes,
     /// The store holds a clause under this id.
     IdHeld,

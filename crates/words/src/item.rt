@@ -6,7 +6,7 @@ use futoshiki::Sign;
 pub enum Item {
     /// A board: which puzzle, and its side.
     Board(u8, u8),
-    /// A cell's value, given to the solver.
+    /// A cell's value, given to the player.
     Given(Entry),
     /// A cell's value in the claimed solution.
     Claim(Entry),

@@ -2,13 +2,13 @@
 // file puzzle.w32 in it.
 #![tactic(auto)]
 
-use files::bytes_in;
+use files::empty_if_missing;
 use report::judge;
-use std::env;
+use std::{env, fs};
 
 fn certify(rt: &HostRuntime, folder: &str) -> anyhow::Result<()> {
     let path = format!(in rt.alloc(); "{folder}/puzzle.w32")?;
-    let puzzle = bytes_in(rt, path.as_str())?;
+    let puzzle = empty_if_missing(rt.alloc(), fs::read(rt, path.as_str()))?;
     let report = judge(rt.alloc(), puzzle.as_slice())?;
     println!(rt; "{folder}: {report}")?;
     Ok(())

@@ -5,7 +5,7 @@
 use anyhow::anyhow;
 use cnf::Fault;
 use drawing::{Undrawn, drawing_of, words_of_drawing};
-use files::bytes_in;
+use files::empty_if_missing;
 use futoshiki::Sign;
 use puzzle::read;
 use std::io::Write;
@@ -56,14 +56,14 @@ fn show_words(rt: &HostRuntime, words: &[u32]) -> anyhow::Result<()> {
 
 // The board in a puzzle file.
 fn show_file(rt: &HostRuntime, path: &str) -> anyhow::Result<()> {
-    let bytes = bytes_in(rt, path)?;
+    let bytes = empty_if_missing(rt.alloc(), fs::read(rt, path))?;
     let words = words_of(rt.alloc(), bytes.as_slice())?;
     show_words(rt, words.as_slice())
 }
 
 // The drawn board as words, in a file and again as a drawing.
 fn take_drawing(rt: &HostRuntime) -> anyhow::Result<()> {
-    let text = bytes_in(rt, "board.txt")?;
+    let text = empty_if_missing(rt.alloc(), fs::read(rt, "board.txt"))?;
     match words_of_drawing(rt.alloc(), text.as_slice()) {
         Ok(words) => {
             let bytes = bytes_of(rt.alloc(), words.as_slice())?;

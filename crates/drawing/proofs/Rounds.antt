@@ -1,4 +1,5 @@
 -- Words that are added cell by cell.
+use mathlib.Core.List.{map-map}
 use Rattle.std.proofs.Common.{◌≡◌, ℕ, ◌+◌, eqb, List, [], ◌∷◌, ◌++◌, map, sym, refl, ap, ◌∙◌, arith}
 use Rattle.std.specs.List.{flat_map}
 use Rattle.std.proofs.lemmas.List.FromFn.{map-range_with_len_more}
@@ -40,10 +41,6 @@ module _ (N : ℕ) (bytes : List ℕ) (i : ℕ) where
   none_given d = cond-false (eqb (byte_before N bytes i) 91) (drawn_entry N bytes i ∷ []) [] (ne_eqb (byte_before N bytes i) 91 d)
 
 -- the words of a puzzle, part by part
-map_map : {A B C : Type 0} (f : B → C) (g : A → B) (xs : List A) → map f (map g xs) ≡ map (λ x. f (g x)) xs
-map_map f g [] = refl
-map_map f g (x ∷ xs) = ap (λ ys. f (g x) ∷ ys) (map_map f g xs)
-
 regroup : (b : ℕ) (g s c e : List ℕ) → (((b ∷ []) ++ g) ++ s) ++ c ++ e ≡ b ∷ ((g ++ (s ++ c)) ++ e)
 regroup b g s c e = simp append_assoc
 
@@ -54,7 +51,7 @@ parts_in_order P u v w x y eu ev ew ex ey =
     let s = map less_word P.signs in
     let c = map claim_word P.claims in
     let all : map item_word (puzzle_items P) ≡ g ++ (s ++ c) = map-append item_word (map Given P.givens) (map Less P.signs ++ map Claim P.claims)
-    ∙ ap (λ l. l ++ map item_word (map Less P.signs ++ map Claim P.claims)) (map_map item_word Given P.givens)
-    ∙ ap (λ l. g ++ l) (map-append item_word (map Less P.signs) (map Claim P.claims) ∙ ap (λ l. l ++ map item_word (map Claim P.claims)) (map_map item_word Less P.signs) ∙ ap (λ l. s ++ l) (map_map item_word Claim P.claims)) in
+    ∙ ap (λ l. l ++ map item_word (map Less P.signs ++ map Claim P.claims)) (map-map item_word Given P.givens)
+    ∙ ap (λ l. g ++ l) (map-append item_word (map Less P.signs) (map Claim P.claims) ∙ ap (λ l. l ++ map item_word (map Claim P.claims)) (map-map item_word Less P.signs) ∙ ap (λ l. s ++ l) (map-map item_word Claim P.claims)) in
     ey ∙ ap (λ l. l ++ item_word End ∷ []) (ex ∙ ap (λ l. l ++ c) (ew ∙ ap (λ l. l ++ s) (ev ∙ ap (λ l. l ++ g) eu)))
     ∙ regroup b g s c (item_word End ∷ []) ∙ ap (λ l. b ∷ (l ++ item_word End ∷ [])) (sym all)

@@ -1,5 +1,6 @@
 -- Variables that go by steps: which they are on the board.
-use Rattle.std.proofs.Common.{◌≡◌, ℕ, zero, suc, ◌+◌, ◌-◌, ◌*◌, ◌<◌, ◌≤◌, List, [], ◌∷◌, ◌++◌, map, pos, sym, refl, ap, ◌∙◌, mul_assoc, add-mul, mul-one, arith, w32, to_z}
+use mathlib.Core.List.{map-map}
+use Rattle.std.proofs.Common.{◌≡◌, ℕ, zero, suc, ◌+◌, ◌-◌, ◌*◌, ◌<◌, ◌≤◌, List, ◌∷◌, ◌++◌, map, pos, sym, refl, ap, ◌∙◌, mul_assoc, add-mul, mul-one, arith, w32, to_z}
 use Rattle.std.specs.List.{flat_map, range_with_len}
 use Rattle.std.proofs.lemmas.List.{append-nil, append_assoc, map-append}
 use Rattle.std.proofs.lemmas.Int.{ints}
@@ -34,10 +35,6 @@ same_along f h a b (suc n) e =
     let s : b + (k + 1) ≡ b + 1 + k = omega arith in
     ap f r ∙ e (k + 1) (omega arith) ∙ ap h s))
 
-map_map : {A B C : Type 0} (f : B → C) (g : A → B) (xs : List A) → map f (map g xs) ≡ map (λ x. f (g x)) xs
-map_map f g [] = refl
-map_map f g (x ∷ xs) = ap (λ ys. f (g x) ∷ ys) (map_map f g xs)
-
 -- the pairs of a count, the pairs of each number after those of the numbers before
 module _ (g : ℕ → ℕ) (x step top : ℕ) (at : (j : ℕ) → 1 ≤ j → g j ≡ x + (j - 1) * step) where
   abbrev both : ℕ × ℕ → Clause
@@ -52,7 +49,7 @@ module _ (g : ℕ → ℕ) (x step top : ℕ) (at : (j : ℕ) → 1 ≤ j → g 
   one_with_later b n h =
       same_along (λ k. not_both (x + (b - 1) * step) (x + (b - 1) * step + k * step)) (λ y. not_both (g b) (g y)) 1 (b + 1) n
       (λ k l. ap (λ v. not_both v (x + (b - 1) * step + (1 + k) * step)) (sym (at b h)) ∙ ap (λ v. not_both (g b) v) (later b k h))
-      ∙ sym (map_map both (λ y. (b, y)) (range_with_len (b + 1) n))
+      ∙ sym (map-map both (λ y. (b, y)) (range_with_len (b + 1) n))
 
   stepped : (b n : ℕ) → 1 ≤ b → b + n ≡ top + 1 → flat_map (λ j. not_with_next (x + (j - 1) * step) step (top - j)) (range_with_len b n) ≡ map both (pairs_of (range_with_len b n))
   stepped b zero h e = refl
@@ -73,7 +70,7 @@ module _ (N : ℕ) where
   cell_one_of i =
       let e : i + 1 - 1 ≡ i = omega arith in
       same_along pos (λ v. pos (variable_at N (i + 1) v)) (i * N + 1) 1 N (λ k l. ap pos (omega (arith, ap (λ n. n * N) e)))
-      ∙ sym (map_map pos (variable_at N (i + 1)) (up_to N))
+      ∙ sym (map-map pos (variable_at N (i + 1)) (up_to N))
 
   pub cell_stepped : (i : ℕ) → no_two_stepped (i * N + 1) 1 N ≡ no_two_values N (i + 1)
   cell_stepped i =

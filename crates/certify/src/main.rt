@@ -63,29 +63,11 @@ static FIXED: [Literal; 1] = [Literal(1)];
 // The board 1 2 over 2 1, and the board 2 1 over 1 2.
 static CLAIMS: [[u8; 8]; 2] = [[1, 0, 0, 1, 0, 1, 1, 0], [0, 1, 1, 0, 1, 0, 0, 1]];
 
-// The numbers of a source as it tells them.
-fn show_source<S: Source>(rt: &HostRuntime, source: &S) -> anyhow::Result<()> {
-    let n = source.variables();
-    let m = source.clauses();
-    println!(rt; "source {n} {m}")?;
-    Ok(())
-}
-
-// A refusal by its number and places.
-fn show_fault(rt: &HostRuntime, fault: Fault) -> anyhow::Result<()> {
-    let number = fault.number();
-    let (first, second) = fault.places();
-    println!(rt; "refused {number} {first} {second}")?;
-    Ok(())
-}
-
 // A clause and its literals.
 fn show_clause<S: Source>(rt: &HostRuntime, source: &S, k: ClauseId) -> anyhow::Result<()> {
-    let number = k.0;
-    print!(rt; "clause {number}:")?;
-    for j in 0..source.length(k) {
-        let literal = source.literal(k, j + 1).0;
-        print!(rt; " {literal}")?;
+    print!(rt; "clause {}:", k.0)?;
+    for j in 1..=source.length(k) {
+        print!(rt; " {}", source.literal(k, j).0)?;
     }
     println!(rt; "")?;
     Ok(())
@@ -93,8 +75,7 @@ fn show_clause<S: Source>(rt: &HostRuntime, source: &S, k: ClauseId) -> anyhow::
 
 fn show_claim(rt: &HostRuntime, claim: &[u8]) -> anyhow::Result<()> {
     print!(rt; "claim")?;
-    for b in claim {
-        let value = *b;
+    for value in claim {
         print!(rt; " {value}")?;
     }
     println!(rt; "")?;
@@ -103,55 +84,60 @@ fn show_claim(rt: &HostRuntime, claim: &[u8]) -> anyhow::Result<()> {
 
 // What blocking a claim adds to a source.
 fn show_block<S: Source + Drop>(rt: &HostRuntime, source: S, claim: &[u8]) -> anyhow::Result<()> {
-    let m = source.clauses();
+    let block = ClauseId(source.clauses() + 1);
     match Block::new(source, claim) {
         Ok(blocked) => {
             print!(rt; "blocked by ")?;
-            show_clause(rt, &blocked, ClauseId(m + 1))
+            show_clause(rt, &blocked, block)?;
         }
-        Err(unmade) => show_fault(rt, unmade.fault),
+        Err(unmade) => println!(rt; "{}", unmade.fault)?,
     }
+    Ok(())
 }
 
-// The rules with the fixed literals.
-fn rules() -> ClauseTable<'static, 'static> {
-    ClauseTable {
+// The rules, and the literal that is fixed over them.
+fn rules() -> Result<Fix<ClauseTable<'static, 'static>>, Fault> {
+    let table = ClauseTable {
         variables: 8,
         literals: &RULES,
         starts: &STARTS,
-    }
+    };
+    Fix::new(table, &FIXED).map_err(|unmade| unmade.fault)
 }
 
-// One claim from the rules to the answer.
-fn judge(rt: &HostRuntime, claim: &[u8]) -> anyhow::Result<()> {
-    match Fix::new(rules(), &FIXED) {
-        Ok(fixed) => {
-            show_claim(rt, claim)?;
-            match check_claim(&fixed, claim) {
-                Ok(()) => {
-                    println!(rt; "every clause holds")?;
-                    show_block(rt, fixed, claim)
-                }
-                Err(fault) => show_fault(rt, fault),
-            }
-        }
-        Err(unmade) => show_fault(rt, unmade.fault),
+// A source's numbers as it tells them, and whether it is lawful.
+fn show_source<S: Source>(rt: &HostRuntime, source: &S) -> anyhow::Result<()> {
+    println!(rt; "source {} {}", source.variables(), source.clauses())?;
+    match check_lawful(source) {
+        Ok(()) => println!(rt; "lawful")?,
+        Err(fault) => println!(rt; "{fault}")?,
     }
+    Ok(())
+}
+
+// One claim over a source, from its check to its block.
+fn judge<S: Source + Drop>(rt: &HostRuntime, source: S, claim: &[u8]) -> anyhow::Result<()> {
+    show_claim(rt, claim)?;
+    match check_claim(&source, claim) {
+        Ok(()) => {
+            println!(rt; "every clause holds")?;
+            show_block(rt, source, claim)?;
+        }
+        Err(fault) => println!(rt; "{fault}")?,
+    }
+    Ok(())
 }
 
 fn main(rt: HostRuntime) -> anyhow::Result<()> {
-    match Fix::new(rules(), &FIXED) {
-        Ok(fixed) => {
-            show_source(&rt, &fixed)?;
-            match check_lawful(&fixed) {
-                Ok(()) => println!(rt; "lawful")?,
-                Err(fault) => show_fault(&rt, fault)?,
-            }
-        }
-        Err(unmade) => show_fault(&rt, unmade.fault)?,
+    match rules() {
+        Ok(source) => show_source(&rt, &source)?,
+        Err(fault) => println!(rt; "{fault}")?,
     }
     for claim in &CLAIMS {
-        judge(&rt, claim)?;
+        match rules() {
+            Ok(source) => judge(&rt, source, claim)?,
+            Err(fault) => println!(rt; "{fault}")?,
+        }
     }
     Ok(())
 }

@@ -1,34 +1,29 @@
 -- The checks of a claim, one after another.
-use Rattle.std.proofs.Common.{◌≡◌, ℕ, true, ◌&&◌, eqb, leb, ◌⊎◌, ◌↔◌, List, [], ◌∷◌, length, Err, sym, refl, ap, ◌∙◌, inl, inr, ⊎_elim}
+use Rattle.std.proofs.Common.{◌≡◌, ℕ, true, ◌&&◌, eqb, leb, ◌⊎◌, ◌↔◌, List, [], ◌∷◌, length, Err, sym, refl, ap, ◌∙◌, inl, inr, ⊎_elim, arith}
 use Rattle.std.specs.List.{AllByRecursion}
 use Rattle.std.proofs.lemmas.List.{length-map}
-use Rattle.std.proofs.lemmas.Bool.{and_parts, and_from, or_cases, or_left, or_right, eqb-true, eq-eqb}
+use Rattle.std.proofs.lemmas.Bool.Decides.{nat_tests}
+use Rattle.std.proofs.lemmas.Bool.{and_parts, or_cases, eqb-true}
 use Rattle.cnf.specs.declared.fault.Fault.{Fault}
 use Rattle.cnf.specs.declared.fault.Fault.TheVariants.{ClaimForm, ClaimFalse}
 use Rattle.cnf.specs.Formula.{Clause, Assignment, clause_true, all_true}
 use Rattle.cnf.specs.Faults.{Answer, accepted, ◌then◌, check_for}
 use Rattle.cnf.specs.Checks.{is_bit, bytes_fit, form_answer, assignment_of, clauses_hold, lawful_answer, claim_answer, told_listing}
 use Rattle.cnf.specs.Laws.{ClaimStands}
-use Rattle.cnf.proofs.Firsts.{tells_first}
+use Rattle.cnf.proofs.Firsts.{test_of_all, tells_first}
 use Rattle.cnf.proofs.Forms.{form_sized}
 use Rattle.cnf.proofs.Short.{told_lawful_listing}
 use Rattle.cnf.proofs.Accepting.{then_parts, then_from, check_passed, lawful_accepted}
 
--- every clause is true, as a test of all and of each
 all_true_each : (a : Assignment) (cs : List Clause) → (all_true a cs ≡ true) ↔ AllByRecursion (λ c. clause_true a c ≡ true) cs
-all_true_each a [] = (λ _. tt, λ _. refl)
-all_true_each a (c ∷ cs) =
-    let ih = all_true_each a cs in (
-      λ h. let w = and_parts (clause_true a c) (all_true a cs) h in (w.0, ih.0 w.1),
-      λ h. and_from (clause_true a c) (all_true a cs) h.0 (ih.1 h.1),
-    )
+all_true_each a cs = test_of_all (clause_true a) (all_true a) refl (λ c ds. refl) cs
 
 bits_each : (bs : List ℕ) → AllByRecursion (λ b. is_bit b ≡ true) bs ↔ AllByRecursion (λ b. (b ≡ 0) ⊎ (b ≡ 1)) bs
 bits_each [] = (λ _. tt, λ _. tt)
 bits_each (b ∷ bs) =
     let ih = bits_each bs in (
       λ h. (⊎_elim (λ e. inl (eqb-true b 0 e)) (λ e. inr (eqb-true b 1 e)) (or_cases (eqb b 0) (eqb b 1) h.0), ih.0 h.1),
-      λ h. (⊎_elim (λ e. or_left (eqb b 0) (eqb b 1) (eq-eqb b 0 e)) (λ e. or_right (eqb b 0) (eqb b 1) (eq-eqb b 1 e)) h.0, ih.1 h.1),
+      λ h. (⊎_elim (λ e. grind (arith, nat_tests)) (λ e. grind (arith, nat_tests)) h.0, ih.1 h.1),
     )
 
 form_size : (n : ℕ) (bs : List ℕ) → form_answer n bs ≡ accepted → length bs ≡ n

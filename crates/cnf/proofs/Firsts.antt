@@ -1,27 +1,55 @@
--- A test of one element after another: a loop's turn, and what the answer tells.
-use Rattle.std.proofs.Common.{◌≡◌, ℕ, suc, ◌+◌, ◌<◌, Bool, true, false, List, [], ◌∷◌, ◌++◌, length, get_or, drop, Err, sym, refl, ap, ◌∙◌, subst, arith}
+-- A test of one element after another: what the answer is by the first that fails, and what it tells.
+use Rattle.std.proofs.Common.{◌≡◌, ℕ, zero, suc, ◌+◌, ◌-◌, ◌<◌, ◌≤◌, Bool, true, false, ◌&&◌, ◌↔◌, List, [], ◌∷◌, ◌++◌, length, get_or, Err, sym, refl, ap, ◌∙◌, subst, arith}
 use Rattle.std.specs.List.{AllByRecursion}
-use Rattle.std.proofs.lemmas.List.{at_drop_more}
+use Rattle.std.proofs.lemmas.Bool.{and_parts, and_from}
 use Rattle.cnf.specs.declared.fault.Fault.{Fault}
 use Rattle.cnf.specs.Faults.{Answer, accepted, ◌then◌, check_for}
 use Rattle.cnf.specs.Checks.{each_passes}
 use Rattle.cnf.specs.Laws.{TellsFirst}
 
+-- a test of all, one after another, is a test of each
+pub test_of_all : {X : Type 0} (test : X → Bool) (all : List X → Bool) → all [] ≡ true → ((x : X) (xs : List X) → all (x ∷ xs) ≡ (test x && all xs)) → (xs : List X) → (all xs ≡ true) ↔ AllByRecursion (λ x. test x ≡ true) xs
+test_of_all test all none more [] = (λ _. tt, λ _. none)
+test_of_all test all none more (x ∷ xs) =
+    let ih = test_of_all test all none more xs in (
+      λ h. let w = and_parts (test x) (all xs) (sym (more x xs) ∙ h) in (w.0, ih.0 w.1),
+      λ h. more x xs ∙ and_from (test x) (all xs) h.0 (ih.1 h.1),
+    )
+
 module _ {X : Type 0} (test : X → Bool) (fault : ℕ → Fault) where
-  -- the element at place i, counted from 0
-  module _ (xs : List X) (i : ℕ) (d : X) (h : i < length xs) where
-    by_test : (b : Bool) → test (get_or xs i d) ≡ b → each_passes test fault (i + 1) (drop i xs) ≡ (check_for b (fault (i + 1)) then each_passes test fault (suc (i + 1)) (drop (i + 1) xs))
-    by_test b e =
-        at_drop_more (each_passes test fault (i + 1)) xs i d h
-        ∙ ap (λ x. check_for x (fault (i + 1)) then each_passes test fault (suc (i + 1)) (drop (i + 1) xs)) e
+  -- the element at index i fails, and each before it passes
+  pub stops_at : (p : ℕ) (xs : List X) (i : ℕ) (d : X) → i < length xs → ((j : ℕ) → j < i → test (get_or xs j d) ≡ true) → test (get_or xs i d) ≡ false → each_passes test fault p xs ≡ Err (fault (i + p))
+  stops_at p [] i d h passed fails = absurd (omega arith)
+  stops_at p (x ∷ xs) zero d h passed fails =
+      let s : p ≡ 0 + p = omega arith in
+      ap (λ b. check_for b (fault p) then each_passes test fault (suc p) xs) fails ∙ ap (λ q. Err (fault q)) s
+  stops_at p (x ∷ xs) (suc i) d h passed fails =
+      let s : i + suc p ≡ suc i + p = omega arith in
+      ap (λ b. check_for b (fault p) then each_passes test fault (suc p) xs) (passed 0 (omega arith))
+      ∙ stops_at (suc p) xs i d (omega arith) (λ j l. passed (suc j) (omega arith)) fails
+      ∙ ap (λ q. Err (fault q)) s
 
-    pub each_stops : test (get_or xs i d) ≡ false → each_passes test fault (i + 1) (drop i xs) ≡ Err (fault (i + 1))
-    each_stops e = by_test false e
+  -- each element passes
+  pub goes_on : (p : ℕ) (xs : List X) (d : X) → ((j : ℕ) → j < length xs → test (get_or xs j d) ≡ true) → each_passes test fault p xs ≡ accepted
+  goes_on p [] d passed = refl
+  goes_on p (x ∷ xs) d passed =
+      ap (λ b. check_for b (fault p) then each_passes test fault (suc p) xs) (passed 0 (omega arith))
+      ∙ goes_on (suc p) xs d (λ j l. passed (suc j) (omega arith))
 
-    pub each_goes : test (get_or xs i d) ≡ true → each_passes test fault (i + 1) (drop i xs) ≡ each_passes test fault (i + 1 + 1) (drop (i + 1) xs)
-    each_goes e =
-        let s : suc (i + 1) ≡ i + 1 + 1 = omega arith in
-        by_test true e ∙ ap (λ p. each_passes test fault p (drop (i + 1) xs)) s
+  -- the places before k, counted from 1, pass
+  module _ (xs : List X) (d : X) (k : ℕ) (passed : (j : ℕ) → j < k → 0 < j → test (get_or xs (j - 1) d) ≡ true) where
+    before : (j : ℕ) → j < k - 1 → test (get_or xs j d) ≡ true
+    before j l =
+        let e : j + 1 - 1 ≡ j = omega arith in
+        ap (λ i. test (get_or xs i d)) (sym e) ∙ passed (j + 1) (omega arith) (omega arith)
+
+    pub first_fails : 0 < k → k ≤ length xs → test (get_or xs (k - 1) d) ≡ false → each_passes test fault 1 xs ≡ Err (fault k)
+    first_fails p h fails =
+        let e : k - 1 + 1 ≡ k = omega arith in
+        stops_at 1 xs (k - 1) d (omega arith) before fails ∙ ap (λ q. Err (fault q)) e
+
+    pub none_fails : length xs < k → each_passes test fault 1 xs ≡ accepted
+    none_fails h = goes_on 1 xs d (λ j l. before j (omega arith))
 
   all_from : (p : ℕ) (xs : List X) → AllByRecursion (λ x. test x ≡ true) xs → each_passes test fault p xs ≡ accepted
   all_from p [] h = refl
@@ -34,7 +62,7 @@ module _ {X : Type 0} (test : X → Bool) (fault : ℕ → Fault) where
     where
       go : (each_passes test fault (suc p) xs ≡ accepted → AllByRecursion (λ y. test y ≡ true) xs) → (b : Bool) → test x ≡ b → (check_for b (fault p) then each_passes test fault (suc p) xs) ≡ accepted → (test x ≡ true) × AllByRecursion (λ y. test y ≡ true) xs
       go ih true t e = (t, ih e)
-      go ih false t e = let z : ◌≡◌ {A = ℕ} 0 1 = cc in absurd (omega arith)
+      go ih false t e = absurd cc
 
   passed_over : (p : ℕ) (ys : List X) (x : X) (zs : List X) → AllByRecursion (λ y. test y ≡ true) ys → test x ≡ false → each_passes test fault p (ys ++ x ∷ zs) ≡ Err (fault (length ys + p))
   passed_over p [] x zs h e =

@@ -1,26 +1,31 @@
 -- A claim's form.
-use Rattle.std.proofs.Common.{◌≡◌, ℕ, ◌<◌, ◌≤◌, true, false, eqb, leb, List, length, ap, ◌∙◌, ⊎_elim, arith}
-use Rattle.std.proofs.lemmas.Bool.{and_from, or_from, or_left, or_right, le-leb, eq-eqb, ne_eqb, cases_eq}
+use Rattle.std.proofs.Common.{◌≡◌, ℕ, ◌+◌, ◌<◌, ◌≤◌, true, false, List, length, Err, ◌∙◌, arith}
+use Rattle.std.specs.List.{AllWithin, HoldsAt}
+use Rattle.std.proofs.lemmas.Bool.Decides.{nat_tests}
 use Rattle.cnf.specs.declared.fault.Fault.TheVariants.{ClaimForm}
-use Rattle.cnf.specs.Faults.{Answer, ◌then◌, check_for}
+use Rattle.cnf.specs.Faults.{Answer, accepted}
 use Rattle.cnf.specs.Checks.{is_bit, bytes_fit, form_answer}
 use Rattle.cnf.specs.Laws.{TellsFirst}
-use Rattle.cnf.proofs.Firsts.{tells_by}
+use Rattle.cnf.proofs.Firsts.{stops_at, goes_on, tells_by}
 
 pub form_sized : (n : ℕ) (bs : List ℕ) → n ≤ 1024 → length bs ≡ n → form_answer n bs ≡ bytes_fit 1 bs
-form_sized n bs h e =
-    ap (λ b. check_for b (ClaimForm 0) then bytes_fit 1 bs)
-    (and_from (leb n 1024) (eqb (length bs) n) (le-leb n 1024 h) (eq-eqb (length bs) n e))
+form_sized n bs h e = grind (arith, nat_tests)
 
 pub bit_from : (b : ℕ) → b ≤ 1 → is_bit b ≡ true
-bit_from b h =
-    ⊎_elim
-    (λ e. or_left (eqb b 0) (eqb b 1) (eq-eqb b 0 e))
-    (λ ne. or_right (eqb b 0) (eqb b 1) (eq-eqb b 1 (omega arith)))
-    (cases_eq b 0)
+bit_from b h = grind (arith, nat_tests)
 
 pub no_bit : (b : ℕ) → 1 < b → is_bit b ≡ false
-no_bit b h = or_from (eqb b 0) (eqb b 1) (ne_eqb b 0 (λ e. omega arith)) (ne_eqb b 1 (λ e. omega arith))
+no_bit b h = grind (arith, nat_tests)
+
+-- a claim of the source's size is decided by its first byte that is neither 0 nor 1
+module _ (n : ℕ) (bs : List ℕ) (few : n ≤ 1024) (size : length bs ≡ n) where
+  pub form_fits : AllWithin (λ b. b ≤ 1) bs 0 (length bs) → form_answer n bs ≡ accepted
+  form_fits f = form_sized n bs few size ∙ goes_on is_bit ClaimForm 1 bs 0 (λ j l. bit_from _ (f j 0 (omega arith) l))
+
+  pub form_stops : (i : ℕ) → (i < length bs) × HoldsAt (λ b. 1 < b) bs i × AllWithin (λ b. b ≤ 1) bs 0 i → form_answer n bs ≡ Err (ClaimForm (i + 1))
+  form_stops i f =
+      form_sized n bs few size
+      ∙ stops_at is_bit ClaimForm 1 bs i 0 f.0 (λ j l. bit_from _ (f.2 j 0 (omega arith) l)) (no_bit _ (f.1 0))
 
 pub form_tells : (n : ℕ) (bs : List ℕ) (answer : Answer) → answer ≡ form_answer n bs → n ≤ 1024 → length bs ≡ n → TellsFirst is_bit ClaimForm bs answer
 form_tells n bs answer e h l = tells_by is_bit ClaimForm bs answer (e ∙ form_sized n bs h l)

@@ -1,6 +1,7 @@
 -- A proper clause over the variables 1 to n has at most n literals; so a lawful listing is told whole.
-use Rattle.std.proofs.Common.{◌≡◌, ℕ, zero, suc, ◌≤◌, Bool, true, false, cond, eqb, leb, List, [], ◌∷◌, ◌++◌, map, length, take, pos, refl, ap, ◌∙◌, subst, arith}
-use Rattle.std.proofs.lemmas.Bool.{and_parts, cond-true, le-leb, eqb-true, eqb-false}
+use Rattle.std.proofs.Common.{◌≡◌, ℕ, zero, suc, ◌≤◌, Bool, true, false, cond, eqb, List, [], ◌∷◌, map, length, refl, ap, ◌∙◌, subst, arith}
+use Rattle.std.proofs.lemmas.Bool.Decides.{nat_tests}
+use Rattle.std.proofs.lemmas.Bool.{and_parts, eqb-true, eqb-false}
 use Rattle.cnf.specs.Formula.{Clause, Lawful, variable_of, proper_clause, all_proper}
 use Rattle.cnf.specs.Checks.{told_clause, told_listing}
 use Rattle.cnf.specs.Words.{Within, Apart, Distinct}
@@ -54,20 +55,23 @@ few_literals (suc n) c w d =
 pub proper_short : (n : ℕ) (c : Clause) → proper_clause n c ≡ true → length c ≤ n
 proper_short n c h = let w = (properly n c).0 h in few_literals n c w.0 w.1
 
-clause_told : (n : ℕ) (c : Clause) → n ≤ 1024 → proper_clause n c ≡ true → told_clause c ≡ c
-clause_told n c h p =
-    let f = proper_short n c p in
-    cond-true (leb (length c) 1024) c (take 1024 c ++ pos 0 ∷ []) (le-leb (length c) 1024 (omega arith))
+-- a clause of at most 1,024 literals is told as it is
+pub short_told : (c : Clause) → length c ≤ 1024 → told_clause c ≡ c
+short_told c h = grind (arith, nat_tests)
+
+-- of at most 65,536 clauses each is told
+pub few_told : (cs : List Clause) → length cs ≤ 65536 → told_listing cs ≡ map told_clause cs
+few_told cs h = grind (arith, nat_tests)
 
 clauses_told : (n : ℕ) (cs : List Clause) → n ≤ 1024 → all_proper n cs ≡ true → map told_clause cs ≡ cs
 clauses_told n [] h q = refl
 clauses_told n (c ∷ cs) h q =
     let p = and_parts (proper_clause n c) (all_proper n cs) q in
-    ap (λ x. x ∷ map told_clause cs) (clause_told n c h p.0) ∙ ap (λ xs. c ∷ xs) (clauses_told n cs h p.1)
+    let f = proper_short n c p.0 in
+    ap (λ x. x ∷ map told_clause cs) (short_told c (omega arith)) ∙ ap (λ xs. c ∷ xs) (clauses_told n cs h p.1)
 
 -- a lawful listing is told as it is
 pub told_lawful_listing : (n : ℕ) (cs : List Clause) → Lawful n cs → told_listing cs ≡ cs
 told_lawful_listing n cs law =
     let few = law.few_clauses in
-    cond-true (leb (length cs) 65536) (map told_clause cs) (map told_clause (take 65536 cs) ++ [] ∷ []) (le-leb (length cs) 65536 (omega arith))
-    ∙ clauses_told n cs law.few_variables law.clauses_proper
+    few_told cs (omega arith) ∙ clauses_told n cs law.few_variables law.clauses_proper

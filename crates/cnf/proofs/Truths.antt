@@ -1,69 +1,51 @@
 -- Truth under a claim's bytes; a clause and a listing as they are told, place by place.
-use Rattle.std.proofs.Common.{◌≡◌, ℕ, zero, suc, ◌+◌, ◌-◌, ◌<◌, ◌≤◌, Bool, true, false, ◌||◌, eqb, leb, List, [], ◌∷◌, ◌++◌, map, length, get_or, take, drop, pos, sym, refl, ap, ◌∙◌, ⊎_elim, arith}
-use Rattle.std.proofs.lemmas.List.{length-append, length-map, length-take, get_or-map, get_or-take, get_or_past, get_or_append_left, get_or-append_right, get_or_at, at_drop_more}
-use Rattle.std.proofs.lemmas.Bool.{cases_lt, cond-true, cond-false, le-leb, lt-leb}
+use Rattle.std.proofs.Common.{◌≡◌, ℕ, zero, suc, ◌+◌, ◌-◌, ◌<◌, ◌≤◌, true, false, eqb, List, [], ◌∷◌, ◌++◌, map, length, get_or, take, pos, Err, sym, refl, ap, ◌∙◌, ⊎_elim, arith}
+use Rattle.std.proofs.lemmas.List.{length-append, length-map, length-take, get_or-map, get_or-take, get_or_append_left, get_or_at}
+use Rattle.std.proofs.Math.ListN.{get_or-map as map_at}
+use Rattle.std.proofs.lemmas.Bool.Decides.{nat_tests}
+use Rattle.std.proofs.lemmas.Bool.{or_left, or_right, or_from, cases_lt}
 use Rattle.cnf.specs.Formula.{Clause, Assignment, value_of, literal_true, clause_true, Lawful}
 use Rattle.cnf.specs.Told.{told_clauses, clause_at, capped_length, literal_at}
 use Rattle.cnf.specs.declared.fault.Fault.TheVariants.{ClaimFalse}
-use Rattle.cnf.specs.Faults.{Answer}
+use Rattle.cnf.specs.Faults.{Answer, accepted}
 use Rattle.cnf.specs.Checks.{assignment_of, clauses_hold, told_clause, told_listing}
 use Rattle.cnf.specs.Laws.{TellsFirst}
-use Rattle.cnf.proofs.Asked.{clause_past, clause_next, literal_next, literal_past, literal_none}
-use Rattle.cnf.proofs.Firsts.{tells_by}
-use Rattle.cnf.proofs.Short.{told_lawful_listing}
+use Rattle.cnf.proofs.Asked.{clause_past, clause_in, literal_past, literal_in}
+use Rattle.cnf.proofs.Firsts.{first_fails, none_fails, tells_by}
+use Rattle.cnf.proofs.Short.{short_told, few_told, told_lawful_listing}
 
-pub value_in : (bs : List ℕ) (v : ℕ) → 0 < v → v ≤ length bs → value_of (assignment_of bs) v ≡ eqb (get_or bs (v - 1) 0) 1
-value_in bs zero p h = absurd (omega arith)
-value_in bs (suc i) p h = let e : suc i - 1 ≡ i = omega arith in get_or-map (λ b. eqb b 1) bs i 0 false (omega arith) ∙ ap (λ k. eqb (get_or bs k 0) 1) (sym e)
-
-pub value_past : (bs : List ℕ) (v : ℕ) → length bs < v → value_of (assignment_of bs) v ≡ false
-value_past bs zero h = refl
-value_past bs (suc i) h = let m = length-map bs (λ b. eqb b 1) in get_or_past (assignment_of bs) i false (omega arith)
+pub value_at : (bs : List ℕ) (v : ℕ) → 0 < v → value_of (assignment_of bs) v ≡ eqb (get_or bs (v - 1) 0) 1
+value_at bs zero p = absurd (omega arith)
+value_at bs (suc i) p = let e : suc i - 1 ≡ i = omega arith in map_at (λ b. eqb b 1) bs i 0 ∙ ap (λ k. eqb (get_or bs k 0) 1) (sym e)
 
 -- a clause as it is told
 module _ (c : Clause) where
-  short : length c ≤ 1024 → told_clause c ≡ c
-  short h = cond-true (leb (length c) 1024) c (take 1024 c ++ pos 0 ∷ []) (le-leb (length c) 1024 h)
-
   long : 1024 < length c → told_clause c ≡ take 1024 c ++ pos 0 ∷ []
-  long h = cond-false (leb (length c) 1024) c (take 1024 c ++ pos 0 ∷ []) (lt-leb (length c) 1024 h)
+  long h = grind (arith, nat_tests)
 
   pub length_told : length (told_clause c) ≡ capped_length c
   length_told =
       ⊎_elim
       (λ h. ap length (long h) ∙ (let e = length-append (take 1024 c) (pos 0 ∷ []) in let t = length-take 1024 c in omega arith))
-      (λ h. ap length (short h) ∙ omega arith)
+      (λ h. ap length (short_told c h) ∙ omega arith)
       (cases_lt 1024 (length c))
 
-  pub literal_told : (j : ℕ) → literal_at (j + 1) c ≡ get_or (told_clause c) j (pos 0)
-  literal_told j =
+  pub literal_told : (j : ℕ) → 0 < j → j ≤ capped_length c → literal_at j c ≡ get_or (told_clause c) (j - 1) (pos 0)
+  literal_told j p l =
       ⊎_elim
       (λ h.
       let t = length-take 1024 c in
       ⊎_elim
-      (λ in'. literal_next c j in' ∙ sym (ap (λ x. get_or x j (pos 0)) (long h) ∙ get_or_append_left (take 1024 c) (pos 0 ∷ []) (pos 0) j (omega arith) ∙ get_or-take 1024 c j (pos 0) in'))
-      (λ far. literal_past c (j + 1) (omega arith) ∙ sym (ap (λ x. get_or x j (pos 0)) (long h) ∙ get_or-append_right (take 1024 c) (pos 0 ∷ []) 1024 j (pos 0) (omega arith) far ∙ only_zero (j - 1024)))
-      (cases_lt j 1024))
-      (λ h.
-      ⊎_elim
-      (λ in'. literal_next c j in' ∙ sym (ap (λ x. get_or x j (pos 0)) (short h)))
-      (λ far. literal_none c (j + 1) (omega arith) ∙ sym (ap (λ x. get_or x j (pos 0)) (short h) ∙ get_or_past c j (pos 0) (omega arith)))
-      (cases_lt j 1024))
+      (λ in'. literal_in c j p (omega arith) ∙ sym (ap (λ x. get_or x (j - 1) (pos 0)) (long h) ∙ get_or_append_left (take 1024 c) (pos 0 ∷ []) (pos 0) (j - 1) (omega arith) ∙ get_or-take 1024 c (j - 1) (pos 0) in'))
+      (λ far. literal_past c j (omega arith) ∙ sym (ap (λ x. get_or x (j - 1) (pos 0)) (long h) ∙ get_or_at (take 1024 c) (pos 0) [] (pos 0) (j - 1) (omega arith)))
+      (cases_lt (j - 1) 1024))
+      (λ h. literal_in c j p (omega arith) ∙ sym (ap (λ x. get_or x (j - 1) (pos 0)) (short_told c h)))
       (cases_lt 1024 (length c))
-    where
-      only_zero : (i : ℕ) → get_or (pos 0 ∷ []) i (pos 0) ≡ pos 0
-      only_zero zero = refl
-      only_zero (suc i) = refl
 
 -- a listing as it is told
 module _ (cs : List Clause) where
-  few : length cs ≤ 65536 → told_listing cs ≡ map told_clause cs
-  few h =
-      cond-true (leb (length cs) 65536) (map told_clause cs) (map told_clause (take 65536 cs) ++ [] ∷ []) (le-leb (length cs) 65536 h)
-
   many : 65536 < length cs → told_listing cs ≡ map told_clause (take 65536 cs) ++ [] ∷ []
-  many h =
-      cond-false (leb (length cs) 65536) (map told_clause cs) (map told_clause (take 65536 cs) ++ [] ∷ []) (lt-leb (length cs) 65536 h)
+  many h = grind (arith, nat_tests)
 
   length_first : 65536 < length cs → length (map told_clause (take 65536 cs)) ≡ 65536
   length_first h = let e = length-map (take 65536 cs) told_clause in let t = length-take 65536 cs in omega arith
@@ -72,39 +54,75 @@ module _ (cs : List Clause) where
   length_told_listing =
       ⊎_elim
       (λ h. ap length (many h) ∙ (let e = length-append (map told_clause (take 65536 cs)) ([] ∷ []) in let f = length_first h in omega arith))
-      (λ h. ap length (few h) ∙ (let e = length-map cs told_clause in omega arith))
+      (λ h. ap length (few_told cs h) ∙ (let e = length-map cs told_clause in omega arith))
       (cases_lt 65536 (length cs))
 
-  pub clause_told : (k : ℕ) → k < told_clauses cs → get_or (told_listing cs) k [] ≡ told_clause (clause_at cs (k + 1))
-  clause_told k l =
+  pub clause_told : (k : ℕ) → 0 < k → k ≤ told_clauses cs → get_or (told_listing cs) (k - 1) [] ≡ told_clause (clause_at cs k)
+  clause_told k p l =
       ⊎_elim
       (λ h.
-      ap (λ x. get_or x k []) (many h)
+      ap (λ x. get_or x (k - 1) []) (many h)
       ∙ ⊎_elim
       (λ in'.
-      get_or_append_left (map told_clause (take 65536 cs)) ([] ∷ []) [] k (omega (arith, length_first h))
-      ∙ get_or-map told_clause (take 65536 cs) k [] [] (omega (arith, length-take 65536 cs))
-      ∙ ap told_clause (get_or-take 65536 cs k [] in' ∙ sym (clause_next cs k in')))
+      get_or_append_left (map told_clause (take 65536 cs)) ([] ∷ []) [] (k - 1) (omega (arith, length_first h))
+      ∙ get_or-map told_clause (take 65536 cs) (k - 1) [] [] (omega (arith, length-take 65536 cs))
+      ∙ ap told_clause (get_or-take 65536 cs (k - 1) [] in' ∙ sym (clause_in cs k p (omega arith))))
       (λ far.
-      let e : k ≡ 65536 = omega arith in
-      get_or_at (map told_clause (take 65536 cs)) [] [] [] k (length_first h ∙ sym e) ∙ ap told_clause (sym (clause_past cs (k + 1) (omega arith))))
-      (cases_lt k 65536))
+      get_or_at (map told_clause (take 65536 cs)) [] [] [] (k - 1) (omega (arith, length_first h))
+      ∙ ap told_clause (sym (clause_past cs k (omega arith))))
+      (cases_lt (k - 1) 65536))
       (λ h.
-      ap (λ x. get_or x k []) (few h) ∙ get_or-map told_clause cs k [] [] (omega arith) ∙ ap told_clause (sym (clause_next cs k (omega arith))))
+      ap (λ x. get_or x (k - 1) []) (few_told cs h)
+      ∙ get_or-map told_clause cs (k - 1) [] [] (omega arith)
+      ∙ ap told_clause (sym (clause_in cs k p (omega arith))))
       (cases_lt 65536 (length cs))
 
--- the literal at place j, counted from 0, of a clause as it is told
-module _ (a : Assignment) (c : Clause) (j : ℕ) (h : j < capped_length c) where
-  from_literal : (b : Bool) → literal_true a (literal_at (j + 1) c) ≡ b → clause_true a (drop j (told_clause c)) ≡ (b || clause_true a (drop (j + 1) (told_clause c)))
-  from_literal b e =
-      at_drop_more (clause_true a) (told_clause c) j (pos 0) (omega (arith, length_told c))
-      ∙ ap (λ x. x || clause_true a (drop (j + 1) (told_clause c))) (ap (literal_true a) (sym (literal_told c j)) ∙ e)
+-- a clause is true by one of its literals, and false where each is
+module _ (a : Assignment) where
+  one_true : (c : Clause) (i : ℕ) → i < length c → literal_true a (get_or c i (pos 0)) ≡ true → clause_true a c ≡ true
+  one_true [] i h e = absurd (omega arith)
+  one_true (l ∷ c) zero h e = or_left (literal_true a l) (clause_true a c) e
+  one_true (l ∷ c) (suc i) h e = or_right (literal_true a l) (clause_true a c) (one_true c i (omega arith) e)
 
-  pub true_here : literal_true a (literal_at (j + 1) c) ≡ true → clause_true a (drop j (told_clause c)) ≡ true
-  true_here e = from_literal true e
+  all_false : (c : Clause) → ((i : ℕ) → i < length c → literal_true a (get_or c i (pos 0)) ≡ false) → clause_true a c ≡ false
+  all_false [] h = refl
+  all_false (l ∷ c) h =
+      or_from (literal_true a l) (clause_true a c) (h 0 (omega arith)) (all_false c (λ i l. h (suc i) (omega arith)))
 
-  pub false_here : literal_true a (literal_at (j + 1) c) ≡ false → clause_true a (drop j (told_clause c)) ≡ clause_true a (drop (j + 1) (told_clause c))
-  false_here e = from_literal false e
+  module _ (c : Clause) (j : ℕ) where
+    -- the literal at place j, counted from 1, as the clause is told
+    pub true_at : 0 < j → j ≤ capped_length c → literal_true a (literal_at j c) ≡ true → clause_true a (told_clause c) ≡ true
+    true_at p l e =
+        one_true (told_clause c) (j - 1) (omega (arith, length_told c))
+        (ap (literal_true a) (sym (literal_told c j p l)) ∙ e)
+
+    -- the literals before place j are all that are told
+    pub false_before : capped_length c < j → ((i : ℕ) → i < j → 0 < i → literal_true a (literal_at i c) ≡ false) → clause_true a (told_clause c) ≡ false
+    false_before l h =
+        let t = length_told c in
+        all_false (told_clause c)
+        (λ i in'.
+        let e : i + 1 - 1 ≡ i = omega arith in
+        ap (λ k. literal_true a (get_or (told_clause c) k (pos 0))) (sym e)
+        ∙ ap (literal_true a) (sym (literal_told c (i + 1) (omega arith) (omega arith)))
+        ∙ h (i + 1) (omega arith) (omega arith))
+
+-- the clauses before clause k are true as they are told
+module _ (cs : List Clause) (a : Assignment) (k : ℕ) (holding : (i : ℕ) → i < k → 0 < i → clause_true a (told_clause (clause_at cs i)) ≡ true) where
+  told_so : (i : ℕ) → i < k → 0 < i → i ≤ told_clauses cs → clause_true a (get_or (told_listing cs) (i - 1) []) ≡ true
+  told_so i l p h = ap (clause_true a) (clause_told cs i p h) ∙ holding i l p
+
+  pub model_stops : 0 < k → k ≤ told_clauses cs → clause_true a (told_clause (clause_at cs k)) ≡ false → clauses_hold a 1 (told_listing cs) ≡ Err (ClaimFalse k)
+  model_stops p h e =
+      let m = length_told_listing cs in
+      first_fails (clause_true a) ClaimFalse (told_listing cs) [] k (λ i l q. told_so i l q (omega arith)) p (omega arith)
+      (ap (clause_true a) (clause_told cs k p h) ∙ e)
+
+  pub model_holds : told_clauses cs < k → clauses_hold a 1 (told_listing cs) ≡ accepted
+  model_holds h =
+      let m = length_told_listing cs in
+      none_fails (clause_true a) ClaimFalse (told_listing cs) [] (told_clauses cs + 1)
+      (λ i l q. told_so i (omega arith) q (omega arith)) (omega arith)
 
 -- over a lawful listing the answer tells the first of its clauses that is false
 pub model_tells : (n : ℕ) (cs : List Clause) (a : Assignment) (answer : Answer) → answer ≡ clauses_hold a 1 (told_listing cs) → Lawful n cs → TellsFirst (clause_true a) ClaimFalse cs answer

@@ -1,5 +1,5 @@
--- Every fault by its cause, with its number and its two places; and the answers of checks.
-use Rattle.std.specs.Prelude.{ℕ, Bool, cond, Ok, Err, Result}
+-- Every fault by its cause, with its number, its two places and its text; and the answers of checks.
+use Rattle.std.specs.Prelude.{ℕ, Bool, cond, List, ◌++◌, Ok, Err, Result, codes, decimal}
 use Rattle.cnf.specs.declared.fault.Fault.{Fault}
 use Rattle.cnf.specs.declared.fault.Fault.TheVariants.{WordForm, BoardWord, OutOfRange, KeyPresent, NoSideShared, EndWord, ClaimMissing, TableFull, FixFull, Unlawful, ClaimForm, ClaimFalse, TooManyBytes, IdHeld, TooLong, NoRoom, NotHeld}
 
@@ -22,6 +22,10 @@ fault_row IdHeld = (61, (0, 0))
 fault_row TooLong = (62, (0, 0))
 fault_row NoRoom = (63, (0, 0))
 fault_row NotHeld = (64, (0, 0))
+
+-- a fault as it is printed: a word, then its number and its two places in decimal, each after a blank
+abbrev pub fault_text : Fault → List ℕ
+fault_text f = codes "refused " ++ (decimal (fault_row f).0 ++ (codes " " ++ (decimal (fault_row f).1.0 ++ (codes " " ++ decimal (fault_row f).1.1))))
 
 -- the answer of a check or a call: taken, or refused with a fault
 abbrev pub Answer : Type 0

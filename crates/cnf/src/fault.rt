@@ -1,5 +1,7 @@
-ghost use Rattle.std.specs.Prelude.{◌≡◌};
-ghost use Rattle.cnf.specs.Faults.{fault_row};
+ghost use Rattle.std.specs.Prelude.{◌≡◌, Some};
+ghost use Rattle.cnf.specs.Faults.{fault_row, fault_text};
+
+use std::fmt;
 
 /// Why something is refused.
 #[derive(Clone, Copy, PartialEq, Eq, Debug)]
@@ -71,20 +73,30 @@ impl Fault {
         ensures { result ≡ (fault_row self).1 }
     {
         match self {
-            Fault::WordForm(word) => (word, 0),
-            Fault::BoardWord(word) => (word, 0),
-            Fault::OutOfRange(word) => (word, 0),
-            Fault::KeyPresent(word) => (word, 0),
-            Fault::NoSideShared(word) => (word, 0),
-            Fault::EndWord(word) => (word, 0),
-            Fault::ClaimMissing(word) => (word, 0),
-            Fault::TableFull(word) => (word, 0),
+            Fault::WordForm(at)
+            | Fault::BoardWord(at)
+            | Fault::OutOfRange(at)
+            | Fault::KeyPresent(at)
+            | Fault::NoSideShared(at)
+            | Fault::EndWord(at)
+            | Fault::ClaimMissing(at)
+            | Fault::TableFull(at)
+            | Fault::Unlawful(at)
+            | Fault::ClaimForm(at)
+            | Fault::ClaimFalse(at) => (at, 0),
             Fault::FixFull => (129, 0),
-            Fault::Unlawful(clause) => (clause, 0),
-            Fault::ClaimForm(byte) => (byte, 0),
-            Fault::ClaimFalse(clause) => (clause, 0),
-            Fault::TooManyBytes => (0, 0),
-            Fault::IdHeld | Fault::TooLong | Fault::NoRoom | Fault::NotHeld => (0, 0),
+            Fault::TooManyBytes | Fault::IdHeld | Fault::TooLong | Fault::NoRoom | Fault::NotHeld =>
+                (0, 0),
         }
+    }
+}
+
+impl fmt::Display for Fault {
+    ghost output = { λ f. Some (fault_text f) };
+
+    fn fmt<W: fmt::Write>(&self, f: &mut fmt::Formatter<W>) -> fmt::Result {
+        let number = self.number();
+        let (first, second) = self.places();
+        write!(f, "refused {number} {first} {second}")
     }
 }

@@ -12,16 +12,11 @@ pub fn check_form<S: Source>(source: &S, claim: &[u8]) -> Result<(), Fault>
     ensures first { S.vars source.now ≤ 1024 → length claim.now ≡ S.vars source.now → TellsFirst is_bit ClaimForm claim.now result }
 {
     let n = source.variables();
-    if n > 1024 {
+    if n > 1024 || claim.len() != n as usize {
         return Err(Fault::ClaimForm(0));
     }
-    if claim.len() != n as usize {
-        return Err(Fault::ClaimForm(0));
+    match claim.iter().position(|b| *b > 1) {
+        Some(i) => Err(Fault::ClaimForm(i as u32 + 1)),
+        None => Ok(()),
     }
-    for (i, b) in claim.iter().enumerate() {
-        if *b > 1 {
-            return Err(Fault::ClaimForm(i as u32 + 1));
-        }
-    }
-    Ok(())
 }

@@ -25,9 +25,10 @@ pub fn check_lawful<S: Source>(source: &S) -> Result<(), Fault>
         return Err(Fault::Unlawful(0));
     }
     let mut seen = [0u32; 1025];
-    for k in 0..m {
-        if !clause_proper(source, ClauseId(k + 1), n, &mut seen) {
-            return Err(Fault::Unlawful(k + 1));
+    // A `for`: the library says nothing of a chain over `1..=n`.
+    for k in 1..=m {
+        if !clause_proper(source, ClauseId(k), n, &mut seen) {
+            return Err(Fault::Unlawful(k));
         }
     }
     Ok(())
@@ -45,8 +46,8 @@ fn clause_proper<S: Source>(source: &S, k: ClauseId, n: u32, seen: &mut [u32; 10
     if len > n {
         return false;
     }
-    for j in 0..len {
-        let l = source.literal(k, j + 1);
+    for j in 1..=len {
+        let l = source.literal(k, j);
         if !l.names(n) {
             return false;
         }

@@ -13,14 +13,7 @@ use crate::source::Source;
 fn value(claim: &[u8], v: u32) -> bool
     ensures { result ≡ value_of (assignment_of claim.now) v }
 {
-    let i = v as usize;
-    if i == 0 {
-        return false;
-    }
-    if i > claim.len() {
-        return false;
-    }
-    claim[i - 1] == 1
+    v > 0 && claim.get(v as usize - 1).is_some_and(|b| *b == 1)
 }
 
 // Whether a literal is true under a claim.
@@ -35,9 +28,9 @@ fn literal_true(claim: &[u8], l: Literal) -> bool
 fn clause_true<S: Source>(source: &S, k: ClauseId, claim: &[u8]) -> bool
     ensures { result ≡ clause_true (assignment_of claim.now) (told_clause (clause_at (S.listing source.now) k.0)) }
 {
-    let len = source.length(k);
-    for j in 0..len {
-        if literal_true(claim, source.literal(k, j + 1)) {
+    // A `for`, here and below: the library says nothing of a chain over `1..=n`.
+    for j in 1..=source.length(k) {
+        if literal_true(claim, source.literal(k, j)) {
             return true;
         }
     }
@@ -49,10 +42,9 @@ pub fn check_model<S: Source>(source: &S, claim: &[u8]) -> Result<(), Fault>
     ensures answer { result ≡ clauses_hold (assignment_of claim.now) 1 (told_listing (S.listing source.now)) }
     ensures first { Lawful (S.vars source.now) (S.listing source.now) → TellsFirst (clause_true (assignment_of claim.now)) ClaimFalse (S.listing source.now) result }
 {
-    let m = source.clauses();
-    for k in 0..m {
-        if !clause_true(source, ClauseId(k + 1), claim) {
-            return Err(Fault::ClaimFalse(k + 1));
+    for k in 1..=source.clauses() {
+        if !clause_true(source, ClauseId(k), claim) {
+            return Err(Fault::ClaimFalse(k));
         }
     }
     Ok(())

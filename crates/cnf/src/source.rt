@@ -21,6 +21,7 @@ pub const MANY_LITERALS: u32 = 1025;
 
 /// A source of clauses. It means a number of variables and a listing of clauses, of any size; its questions tell them up
 /// to the caps, and none of them alters it.
+// Numbers and no `Option`, by the rules of sources (docs/RULES.md): what is told is capped, and is 0 where there is none.
 pub trait Source {
     ghost vars: { Self → ℕ };
 

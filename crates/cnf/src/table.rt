@@ -1,4 +1,4 @@
-ghost use Rattle.std.specs.Prelude.{◌≡◌, ◌-◌, ◌≤◌, length, take, drop};
+ghost use Rattle.std.specs.Prelude.{◌≡◌};
 ghost use Rattle.cnf.specs.Told.{clause_at};
 ghost use Rattle.cnf.specs.Tabled.{numbers_of, tabled};
 
@@ -7,6 +7,7 @@ use crate::source::{LAST_CLAUSE, LAST_PLACE, MANY_CLAUSES, MANY_LITERALS, MANY_V
 
 /// Clauses in lent tables: clause k runs from the kth start up to the next, places counted from 0. Any tables are a source: a
 /// clause whose starts fall or leave the literals is empty, and tables without starts list nothing.
+// Two flat tables and no list of clauses: they are lent, and nothing is allocated (docs/RULES.md).
 #[derive(Clone, Copy)]
 pub struct ClauseTable<'l, 's> {
     pub variables: u32,
@@ -14,32 +15,18 @@ pub struct ClauseTable<'l, 's> {
     pub starts: &'s [u32],
 }
 
-impl ClauseTable<'_, '_> {
-    // Where clause k begins and ends in the literals; both 0 where it has none.
-    fn bounds(&self, k: ClauseId) -> (usize, usize)
-        ensures clause { clause_at (tabled (numbers_of self.now.literals.now) self.now.starts.now) k.0 ≡ take (result.1 - result.0) (drop result.0 (numbers_of self.now.literals.now)) }
-        ensures order { result.0 ≤ result.1 }
-        ensures within { result.1 ≤ length self.now.literals.now }
+impl<'l> ClauseTable<'l, '_> {
+    // The literals of clause k; none where its starts fall or leave the literals.
+    fn clause(&self, k: ClauseId) -> &'l [Literal]
+        ensures { numbers_of result.now ≡ clause_at (tabled (numbers_of self.now.literals.now) self.now.starts.now) k.0 }
     {
         let i = k.0 as usize;
-        if i == 0 {
-            return (0, 0);
+        if i == 0 || k.0 > LAST_CLAUSE || i >= self.starts.len() {
+            return &[];
         }
-        if k.0 > LAST_CLAUSE {
-            return (0, 0);
-        }
-        if i >= self.starts.len() {
-            return (0, 0);
-        }
-        let a = self.starts[i - 1] as usize;
-        let b = self.starts[i] as usize;
-        if a > b {
-            return (0, 0);
-        }
-        if b > self.literals.len() {
-            return (0, 0);
-        }
-        (a, b)
+        let start = self.starts[i - 1] as usize;
+        let end = self.starts[i] as usize;
+        self.literals.get(start..end).unwrap_or(&[])
     }
 }
 
@@ -58,21 +45,16 @@ impl Source for ClauseTable<'_, '_> {
     }
 
     fn length(&self, k: ClauseId) -> u32 {
-        let (a, b) = self.bounds(k);
-        (b - a).min(MANY_LITERALS as usize) as u32
+        self.clause(k).len().min(MANY_LITERALS as usize) as u32
     }
 
     fn literal(&self, k: ClauseId, j: u32) -> Literal {
-        let (a, b) = self.bounds(k);
-        if j == 0 {
+        if j == 0 || j > LAST_PLACE {
             return Literal(0);
         }
-        if j > LAST_PLACE {
-            return Literal(0);
-        }
-        if j as usize > b - a {
-            return Literal(0);
-        }
-        self.literals[a + j as usize - 1]
+        self.clause(k)
+            .get(j as usize - 1)
+            .copied()
+            .unwrap_or(Literal(0))
     }
 }

@@ -3,7 +3,6 @@
 #![tactic(auto)]
 
 use anyhow::anyhow;
-use cnf::Fault;
 use drawing::{Undrawn, drawing_of, words_of_drawing};
 use files::empty_if_missing;
 use futoshiki::Sign;
@@ -11,14 +10,6 @@ use puzzle::read;
 use std::io::Write;
 use std::{env, fs};
 use words::{Entry, bytes_of, words_of};
-
-// A refusal of the words, by its number and its place.
-fn show_fault(rt: &HostRuntime, fault: Fault) -> anyhow::Result<()> {
-    let number = fault.number();
-    let (first, second) = fault.places();
-    println!(rt; "refused {number} {first} {second}")?;
-    Ok(())
-}
 
 // The givens that the claim does not keep: a drawing shows the claimed values alone.
 fn show_disagreements(rt: &HostRuntime, givens: &[Entry], claims: &[Entry]) -> anyhow::Result<()> {
@@ -35,6 +26,7 @@ fn show_disagreements(rt: &HostRuntime, givens: &[Entry], claims: &[Entry]) -> a
 
 // The board that a list of words gives, as a drawing.
 fn show_words(rt: &HostRuntime, words: &[u32]) -> anyhow::Result<()> {
+    // tables that are never full
     let mut givens = [Entry { cell: 0, value: 0 }; 81];
     let mut claims = givens;
     let mut signs = [Sign {
@@ -43,14 +35,15 @@ fn show_words(rt: &HostRuntime, words: &[u32]) -> anyhow::Result<()> {
     }; 162];
     match read(words, &mut givens, &mut claims, &mut signs) {
         Ok(taken) => {
-            let given = &givens[0..taken.given_count];
-            let claimed = &claims[0..taken.claim_count];
-            let signed = &signs[0..taken.sign_count];
-            let text = drawing_of(rt.alloc(), taken.side, given, claimed, signed)?;
+            let board = taken.records(&givens, &claims, &signs);
+            let text = drawing_of(rt.alloc(), board)?;
             rt.stdout().write_all(text.as_slice())?;
-            show_disagreements(rt, given, claimed)
+            show_disagreements(rt, board.givens, board.claims)
         }
-        Err(fault) => show_fault(rt, fault),
+        Err(fault) => {
+            println!(rt; "{fault}")?;
+            Ok(())
+        }
     }
 }
 
@@ -72,11 +65,11 @@ fn take_drawing(rt: &HostRuntime) -> anyhow::Result<()> {
             println!(rt; "puzzle.w32 has {count} words:")?;
             show_file(rt, "puzzle.w32")
         }
-        Err(Undrawn::At(line, column)) => {
-            println!(rt; "board.txt does not fit at line {line}, column {column}")?;
+        Err(Undrawn::Memory) => Err(anyhow!("no memory")),
+        Err(undrawn) => {
+            println!(rt; "board.txt {undrawn}")?;
             Ok(())
         }
-        Err(Undrawn::Memory) => Err(anyhow!("no memory")),
     }
 }
 

@@ -46,10 +46,10 @@ module _ (bytes : List ℕ) where
         cond-false (all_drawn N bytes) (Ok (drawn_words N bytes)) (Err (told_place N (first_unfit N bytes)))
         (and_right (leb (whole_length N) (first_unfit N bytes)) (leb (length bytes) (whole_length N)) (lt-leb (length bytes) (whole_length N) p))
 
-    pub told_at : (k w : ℕ) → k ≡ first_unfit N bytes → w ≡ line_width N → side_answer N bytes ≡ Err (told_place N (first_unfit N bytes)) → side_answer N bytes ≡ Err (k / w + 1, k % w + 1)
-    told_at k w e f h =
-        let told : ℕ → ℕ → Result (List ℕ) (ℕ × ℕ) = λ n v. Err (n / v + 1, n % v + 1) in
-        h ∙ ap (λ n. told n (line_width N)) (sym e) ∙ ap (told k) (sym f)
+    pub told_at : (k l c : ℕ) → k ≡ first_unfit N bytes → l ≡ k / line_width N → c ≡ k % line_width N → side_answer N bytes ≡ Err (told_place N (first_unfit N bytes)) → side_answer N bytes ≡ Err (l + 1, c + 1)
+    told_at k l c e el ec h =
+        let told : ℕ → ℕ → Result (List ℕ) (ℕ × ℕ) = λ m n. Err (m + 1, n + 1) in
+        h ∙ ap (λ n. told (n / line_width N) (n % line_width N)) (sym e) ∙ ap (λ m. told m (k % line_width N)) (sym el) ∙ ap (told l) (sym ec)
 
     pub well_drawn : 2 ≤ N → N ≤ 9 → whole_length N ≤ first_unfit N bytes → length bytes ≤ whole_length N → WellDrawn N bytes
     unfolding first_unfit

@@ -1,6 +1,8 @@
 -- The first number that fails a test.
-use Rattle.std.proofs.Common.{◌≡◌, ℕ, zero, suc, ◌+◌, ◌<◌, ◌≤◌, Bool, true, false, sym, ◌∙◌, subst, ⊎_elim, arith}
-use Rattle.std.proofs.lemmas.Bool.{cases_eq, cases_Bool, cond-true, cond-false}
+use Rattle.std.proofs.Common.{◌≡◌, ℕ, zero, suc, ◌+◌, ◌<◌, ◌≤◌, Bool, true, false, cond, not, eqb, ltb, None, Some, List, [], ◌∷◌, length, take, get_or, sym, refl, ap, ◌∙◌, subst, ⊎_elim, arith, unwrap_or}
+use Rattle.std.specs.List.{range_with_len, find, position, position_or_len}
+use Rattle.std.proofs.lemmas.List.Sums.{prefix_len-le-length}
+use Rattle.std.proofs.lemmas.Bool.{cases_eq, cases_Bool, eq-eqb, ltb-false, cond-true, cond-false}
 use Rattle.drawing.specs.Drawn.{first_failing}
 
 module _ (test : ℕ → Bool) where
@@ -51,3 +53,54 @@ module _ (test : ℕ → Bool) where
 
   pub first_most : (n : ℕ) → first_failing test 0 n ≤ n
   first_most n = let h = most_from 0 n in omega arith
+
+  -- a search among the numbers finds it
+  pub first_found : (a n : ℕ) → unwrap_or (find (λ k. not (test k)) (range_with_len a n)) (a + n) ≡ first_failing test a n
+  first_found a zero = omega arith
+  first_found a (suc n) =
+      let e : a + suc n ≡ a + 1 + n = omega arith in
+      ⊎_elim
+      (λ (t : test a ≡ true).
+      ap (λ b. unwrap_or (cond (not b) (Some a) (find (λ k. not (test k)) (range_with_len (a + 1) n))) (a + suc n)) t
+      ∙ ap (unwrap_or (find (λ k. not (test k)) (range_with_len (a + 1) n))) e ∙ first_found (a + 1) n ∙ sym (cond-true (test a) (first_failing test (a + 1) n) a t))
+      (λ (f : test a ≡ false).
+      ap (λ b. unwrap_or (cond (not b) (Some a) (find (λ k. not (test k)) (range_with_len (a + 1) n))) (a + suc n)) f ∙ sym (cond-false (test a) (first_failing test (a + 1) n) a f))
+      (cases_Bool (test a))
+
+-- a search through a list gives the place that it finds, and the list's length where it finds none
+pub place_or_length : {A : Type 0} (p : A → Bool) (xs : List A) → unwrap_or (position p xs) (length xs) ≡ position_or_len p xs
+place_or_length p xs =
+    let k = position_or_len p xs in
+    let most = prefix_len-le-length (λ x. not (p x)) xs in
+    ⊎_elim
+    (λ (t : ltb k (length xs) ≡ true). ap (λ b. unwrap_or (cond b (Some k) None) (length xs)) t)
+    (λ (f : ltb k (length xs) ≡ false). let past = ltb-false k (length xs) f in ap (λ b. unwrap_or (cond b (Some k) None) (length xs)) f ∙ omega arith)
+    (cases_Bool (ltb k (length xs)))
+
+-- the first number at which a list has an item, or no more items
+module _ (item : ℕ) where
+  abbrev goes_on : ℕ → Bool
+  goes_on b = not (eqb b item)
+
+  placed_from : (test : ℕ → Bool) (bytes : List ℕ) (a n : ℕ) → ((k : ℕ) → test (a + k) ≡ goes_on (get_or bytes k item)) → a + position_or_len (λ b. eqb b item) (take n bytes) ≡ first_failing test a n
+  placed_from test bytes a zero h = omega arith
+  placed_from test [] a (suc n) h =
+      let here : a ≡ a + 0 = omega arith in
+      sym here ∙ sym (cond-false (test a) (first_failing test (a + 1) n) a (ap test here ∙ h 0 ∙ ap not (eq-eqb item item refl)))
+  placed_from test (b ∷ bytes) a (suc n) h =
+      let rest = position_or_len (λ x. eqb x item) (take n bytes) in
+      let here : a ≡ a + 0 = omega arith in
+      let first : test a ≡ goes_on b = ap test here ∙ h 0 in
+      let next : a + (1 + rest) ≡ a + 1 + rest = omega arith in
+      ⊎_elim
+      (λ (t : goes_on b ≡ true).
+      ap (λ x. a + cond x (1 + rest) 0) t ∙ next ∙ placed_from test bytes (a + 1) n (λ k. let shifted : a + 1 + k ≡ a + suc k = omega arith in ap test shifted ∙ h (suc k))
+      ∙ sym (cond-true (test a) (first_failing test (a + 1) n) a (first ∙ t)))
+      (λ (f : goes_on b ≡ false). ap (λ x. a + cond x (1 + rest) 0) f ∙ sym here ∙ sym (cond-false (test a) (first_failing test (a + 1) n) a (first ∙ f)))
+      (cases_Bool (goes_on b))
+
+  pub first_placed : (bytes : List ℕ) (n : ℕ) → position_or_len (λ b. eqb b item) (take n bytes) ≡ first_failing (λ k. goes_on (get_or bytes k item)) 0 n
+  first_placed bytes n =
+      let test : ℕ → Bool = λ k. goes_on (get_or bytes k item) in
+      let placed = placed_from test bytes 0 n (λ k. let same : 0 + k ≡ k = omega arith in ap test same) in
+      omega arith

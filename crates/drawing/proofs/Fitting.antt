@@ -1,8 +1,14 @@
 -- What fits in a line and a column, by the kind of the line.
-use Rattle.std.proofs.Common.{◌≡◌, ℕ, ◌+◌, ◌-◌, ◌*◌, ◌/◌, ◌%◌, ◌<◌, ◌≤◌, true, false, cond, not, eqb, List, length, get_or, ap, ◌∙◌}
-use Rattle.std.proofs.lemmas.List.{get_or_past, get_or_default}
+use Rattle.std.proofs.Common.{◌≡◌, ℕ, ◌+◌, ◌-◌, ◌*◌, ◌/◌, ◌%◌, ◌<◌, Bool, true, false, cond, not, ◌&&◌, ◌||◌, eqb, ltb, leb, List, length, get_or, ap, ◌∙◌}
+use Rattle.std.proofs.lemmas.List.{get_or_default}
 use Rattle.std.proofs.lemmas.Bool.{eq-eqb, ne_eqb, cond-true, cond-false, not_from_false}
 use Rattle.drawing.specs.Drawn.{line_width, frame_fits, row_fits, byte_fits, fits_place}
+
+-- what fits a row of cells in a column, by the column's rest at 4
+abbrev pub fits_by_rest : ℕ → ℕ → ℕ → ℕ → ℕ → Bool
+fits_by_rest N c b o x =
+    cond (eqb x 0) (eqb b 124 || (ltb 0 c && ltb c (4 * N) && (eqb b 60 || eqb b 62)))
+    (cond (eqb x 1) (eqb b 32 || eqb b 91) (cond (eqb x 2) (leb 49 b && leb b (48 + N)) (eqb b (cond (eqb o 91) 93 32))))
 
 pub fits_by : (N : ℕ) (bytes : List ℕ) (k l c b o : ℕ) → l ≡ k / line_width N → c ≡ k % line_width N → b ≡ get_or bytes k 0 → o ≡ get_or bytes (k - 2) 0 → byte_fits N l c b o ≡ fits_place N bytes k
 unfolding fits_place
@@ -25,9 +31,6 @@ module _ (N l c b o : ℕ) where
 
 -- whether the first line goes on at a place
 module _ (bytes : List ℕ) (k : ℕ) where
-  pub ends_past : length bytes ≤ k → not (eqb (get_or bytes k 10) 10) ≡ false
-  ends_past h = ap (λ b. not (eqb b 10)) (get_or_past bytes k 10 h)
-
   pub ends_here : k < length bytes → get_or bytes k 0 ≡ 10 → not (eqb (get_or bytes k 10) 10) ≡ false
   ends_here h e = ap (λ b. not (eqb b 10)) (get_or_default bytes k 10 0 h ∙ e)
 

@@ -1,5 +1,5 @@
 -- Records that are made cell by cell: once each, few enough, and one for each cell.
-use Rattle.std.proofs.Common.{◌≡◌, ℕ, zero, suc, ◌+◌, ◌*◌, ◌<◌, ◌≤◌, List, [], ◌∷◌, ◌++◌, map, length, sym, refl, ap, subst, inl, inr, ⊎_elim, mul-suc, arith}
+use Rattle.std.proofs.Common.{◌≡◌, ℕ, zero, suc, ◌+◌, ◌*◌, ◌<◌, ◌≤◌, List, [], ◌∷◌, ◌++◌, map, length, sym, subst, inl, inr, ⊎_elim, mul-suc, arith}
 use Rattle.std.specs.List.{range_with_len, flat_map, AllByRecursion}
 use Rattle.std.proofs.ByRecursion.{All-append, All-weaker}
 use Rattle.std.proofs.lemmas.List.{length-append}
@@ -41,11 +41,7 @@ pub length_joined : {A : Type 0} (g : ℕ → List A) (m b n : ℕ) → ((i : �
 length_joined g m b zero h = omega arith
 length_joined g m b (suc n) h = omega (arith, length-append (g b) (flat_map g (range_with_len (b + 1) n)), h b, length_joined g m (b + 1) n h, mul-suc m n)
 
--- one for each number: members once, and each number is there
-pub map_joined : {A : Type 0} (f : ℕ → A) (b n : ℕ) → flat_map (λ i. f i ∷ []) (range_with_len b n) ≡ map f (range_with_len b n)
-map_joined f b zero = refl
-map_joined f b (suc n) = ap (λ xs. f b ∷ xs) (map_joined f (b + 1) n)
-
+-- one for each number: each number is there
 pub any_counted : {A : Type 0} (P : A → Type 0) (f : ℕ → A) (b n i : ℕ) → b ≤ i → i < b + n → P (f i) → Any P (map f (range_with_len b n))
 any_counted P f b zero i p q h = absurd (omega arith)
 any_counted P f b (suc n) i p q h =

@@ -11,8 +11,8 @@ use Rattle.drawing.specs.Redrawn.{is_given, is_signed, byte_between, cell_in, fr
 use Rattle.drawing.specs.Theorems.{WellDrawn}
 use Rattle.drawing.proofs.Answering.{present}
 use Rattle.drawing.proofs.Finding.{given_found, claim_found, right_less, right_more, below_less, below_more}
-use Rattle.drawing.proofs.Fitting.{fits_by, line_end, frame_line, row_line}
-use Rattle.drawing.proofs.Redrawing.{feed_at, frame_at, row_at, whole_text}
+use Rattle.drawing.proofs.Fitting.{fits_by_rest, fits_by, line_end, frame_line, row_line}
+use Rattle.drawing.proofs.Redrawing.{byte_by_rest, feed_at, frame_at, row_at, whole_text}
 
 -- a byte that is one of three, told by two tests
 one_of_three : (b p q z : ℕ) → ((b ≡ z) ⊎ ((b ≡ p) ⊎ (b ≡ q))) → cond (eqb b p) p (cond (eqb b q) q z) ≡ b
@@ -140,23 +140,11 @@ module _ (N : ℕ) (bytes : List ℕ) (drawn : WellDrawn N bytes) where
         below_byte (l / 2 - 1) (c / 4) (omega arith) (omega arith) k (omega arith)))
         (cases_Bool (eqb (c % 4) 0))
 
-    -- what a row of cells has in a column, by the rest of the column at 4
-    abbrev fits_by_rest : ℕ → Bool
-    fits_by_rest x =
-        cond (eqb x 0) (eqb b 124 || (ltb 0 c && ltb c (4 * N) && (eqb b 60 || eqb b 62)))
-        (cond (eqb x 1) (eqb b 32 || eqb b 91) (cond (eqb x 2) (leb 49 b && leb b (48 + N)) (eqb b (cond (eqb o 91) 93 32))))
-
-    abbrev byte_by_rest : ℕ → ℕ
-    byte_by_rest x =
-        cond (eqb x 0) (cond (ltb 0 c && ltb c (4 * N)) (byte_between P.signs (cell_in N (l / 2) (c / 4 - 1)) (cell_in N (l / 2) (c / 4 - 1) + 1) 60 62 124) 124)
-        (cond (eqb x 1) (cond (is_given P.givens (cell_in N (l / 2) (c / 4))) 91 32)
-        (cond (eqb x 2) (48 + claim_at P.claims (cell_in N (l / 2) (c / 4)) % 10) (cond (is_given P.givens (cell_in N (l / 2) (c / 4))) 93 32)))
-
     module _ (odd : l % 2 ≡ 0 → ⊥) (h : row_fits N c b o ≡ true) where
       border_again : c % 4 ≡ 0 → row_byte N P l c ≡ b
       border_again e =
-          ap byte_by_rest e
-          ∙ signed_byte (ltb 0 c && ltb c (4 * N)) b 60 62 124 (byte_between P.signs (cell_in N (l / 2) (c / 4 - 1)) (cell_in N (l / 2) (c / 4 - 1) + 1) 60 62 124) (sym (ap fits_by_rest e) ∙ h)
+          ap (byte_by_rest N P l c) e
+          ∙ signed_byte (ltb 0 c && ltb c (4 * N)) b 60 62 124 (byte_between P.signs (cell_in N (l / 2) (c / 4 - 1)) (cell_in N (l / 2) (c / 4 - 1) + 1) 60 62 124) (sym (ap (fits_by_rest N c b o) e) ∙ h)
           (λ t.
           let v = and_parts (ltb 0 c) (ltb c (4 * N)) t in
           let up = ltb-true 0 c v.0 in
@@ -167,23 +155,23 @@ module _ (N : ℕ) (bytes : List ℕ) (drawn : WellDrawn N bytes) where
       opening_again : c % 4 ≡ 1 → row_byte N P l c ≡ b
       opening_again e =
           let s = same_line (2 * (l / 2) + 1) (omega arith) in
-          ap byte_by_rest e ∙ given_byte (l / 2) (c / 4) (omega arith) (omega arith) k 91 (omega arith) ∙ one_of_two b 91 32 (sym (ap fits_by_rest e) ∙ h)
+          ap (byte_by_rest N P l c) e ∙ given_byte (l / 2) (c / 4) (omega arith) (omega arith) k 91 (omega arith) ∙ one_of_two b 91 32 (sym (ap (fits_by_rest N c b o) e) ∙ h)
 
       digit_again : c % 4 ≡ 2 → row_byte N P l c ≡ b
       digit_again e =
           let s = same_line (2 * (l / 2) + 1) (omega arith) in
-          let v = and_parts (leb 49 b) (leb b (48 + N)) (sym (ap fits_by_rest e) ∙ h) in
+          let v = and_parts (leb 49 b) (leb b (48 + N)) (sym (ap (fits_by_rest N c b o) e) ∙ h) in
           let low = leb-true 49 b v.0 in
           let high = leb-true b (48 + N) v.1 in
           let n = drawn.nine_at_most in
           let d = digit_byte (l / 2) (c / 4) (omega arith) (omega arith) k (omega arith) in
           let value : (b - 48) % 10 ≡ b - 48 = omega arith in
-          ap byte_by_rest e ∙ ap (λ x. 48 + x % 10) d ∙ omega arith
+          ap (byte_by_rest N P l c) e ∙ ap (λ x. 48 + x % 10) d ∙ omega arith
 
       closing_again : c % 4 ≡ 3 → row_byte N P l c ≡ b
       closing_again e =
           let s = same_line (2 * (l / 2) + 1) (omega arith) in
-          ap byte_by_rest e ∙ given_byte (l / 2) (c / 4) (omega arith) (omega arith) (k - 2) 93 (omega arith) ∙ sym (eqb-true b (cond (eqb o 91) 93 32) (sym (ap fits_by_rest e) ∙ h))
+          ap (byte_by_rest N P l c) e ∙ given_byte (l / 2) (c / 4) (omega arith) (omega arith) (k - 2) 93 (omega arith) ∙ sym (eqb-true b (cond (eqb o 91) 93 32) (sym (ap (fits_by_rest N c b o) e) ∙ h))
 
       row_again : row_byte N P l c ≡ b
       row_again =
@@ -207,11 +195,11 @@ module _ (N : ℕ) (bytes : List ℕ) (drawn : WellDrawn N bytes) where
       let column_in : c < W = mod_below k W (omega arith) in
       let fit : byte_fits N l c b o ≡ true = fits_by N bytes k l c b o refl refl refl refl ∙ drawn.each_fits k h in
       ⊎_elim
-      (λ (e : c ≡ 4 * N + 1). eqb-true b 10 (sym (line_end N l c b o e) ∙ fit) ∙ feed_at P k W refl e)
+      (λ (e : c ≡ 4 * N + 1). eqb-true b 10 (sym (line_end N l c b o e) ∙ fit) ∙ feed_at N P refl k l c refl refl e)
       (λ (d : c ≡ 4 * N + 1 → ⊥).
       ⊎_elim
-      (λ (e : l % 2 ≡ 0). sym (frame_again k l c (omega arith) line_in (omega arith) e (sym (frame_line N l c b o d e) ∙ fit)) ∙ frame_at P k W refl d e)
-      (λ (f : l % 2 ≡ 0 → ⊥). sym (row_again k l c (omega arith) line_in (omega arith) f (sym (row_line N l c b o d f) ∙ fit)) ∙ row_at P k W refl d f)
+      (λ (e : l % 2 ≡ 0). sym (frame_again k l c (omega arith) line_in (omega arith) e (sym (frame_line N l c b o d e) ∙ fit)) ∙ frame_at N P refl k l c refl refl d e)
+      (λ (f : l % 2 ≡ 0 → ⊥). sym (row_again k l c (omega arith) line_in (omega arith) f (sym (row_line N l c b o d f) ∙ fit)) ∙ row_at N P refl k l c refl refl d f)
       (cases_eq (l % 2) 0))
       (cases_eq c (4 * N + 1))
 

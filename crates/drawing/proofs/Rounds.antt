@@ -1,9 +1,8 @@
 -- Words that are added cell by cell.
 use mathlib.Core.List.{map-map}
-use Rattle.std.proofs.Common.{◌≡◌, ℕ, ◌+◌, eqb, List, [], ◌∷◌, ◌++◌, map, sym, refl, ap, ◌∙◌, arith}
+use Rattle.std.proofs.Common.{◌≡◌, ℕ, ◌+◌, ◌-◌, ◌≤◌, eqb, List, [], ◌∷◌, ◌++◌, map, Option, option_to_list, sym, refl, ap, ◌∙◌, arith}
 use Rattle.std.specs.List.{flat_map}
-use Rattle.std.proofs.lemmas.List.FromFn.{map-range_with_len_more}
-use Rattle.std.proofs.lemmas.List.{append_assoc, map-append}
+use Rattle.std.proofs.lemmas.List.{append_assoc, append-nil, map-append}
 use Rattle.std.proofs.lemmas.Bool.{eq-eqb, ne_eqb, cond-true, cond-false}
 use Rattle.futoshiki.specs.Board.{up_to}
 use Rattle.futoshiki.proofs.Stepping.{joined_up_more}
@@ -12,23 +11,23 @@ use Rattle.words.specs.Layouts.{item_word}
 use Rattle.puzzle.specs.Reading.{Puzzle}
 use Rattle.drawing.specs.Drawn.{byte_before, drawn_entry, drawn_given, given_word, claim_word, less_word, puzzle_items, puzzle_words}
 
-module _ {A : Type 0} (f : A → ℕ) where
-  after : (us vs ws : List A) (x y z : List ℕ) → y ≡ x ++ map f us → z ≡ y ++ map f vs → ws ≡ us ++ vs → z ≡ x ++ map f ws
-  after us vs ws x y z p q e =
-      q ∙ ap (λ l. l ++ map f vs) p ∙ append_assoc x (map f us) (map f vs) ∙ ap (λ l. x ++ l) (sym (map-append f us vs)) ∙ ap (λ l. x ++ map f l) (sym e)
+-- the words that each cell gives, up to one more cell
+pub cell_more : (given : ℕ → List ℕ) (i n : ℕ) (x y z : List ℕ) → 1 ≤ i → n ≡ i → y ≡ x ++ flat_map given (up_to (i - 1)) → z ≡ y ++ given i → z ≡ x ++ flat_map given (up_to n)
+cell_more given i n x y z h e p q =
+    let before = flat_map given (up_to (i - 1)) in
+    let last : i - 1 + 1 ≡ i = omega arith in
+    q ∙ ap (λ l. l ++ given i) p ∙ append_assoc x before (given i) ∙ ap (λ k. x ++ (before ++ given k)) (sym last)
+    ∙ ap (λ l. x ++ l) (sym (joined_up_more given (i - 1))) ∙ ap (λ k. x ++ flat_map given (up_to k)) (last ∙ sym e)
 
-  pub two_more : (us vs : List A) (x y z : List ℕ) → y ≡ x ++ map f us → z ≡ y ++ map f vs → z ≡ x ++ map f (us ++ vs)
-  two_more us vs x y z p q = after us vs (us ++ vs) x y z p q refl
+-- the words of what each cell gives
+pub words_joined : {A : Type 0} (f : A → ℕ) (g : ℕ → List A) (cells : List ℕ) → flat_map (λ i. map f (g i)) cells ≡ map f (flat_map g cells)
+words_joined f g [] = refl
+words_joined f g (i ∷ cells) = ap (λ l. map f (g i) ++ l) (words_joined f g cells) ∙ sym (map-append f (g i) (flat_map g cells))
 
-  -- some members for each number, or one
-  pub some_more : (g : ℕ → List A) (i : ℕ) (x y z : List ℕ) → y ≡ x ++ map f (flat_map g (up_to i)) → z ≡ y ++ map f (g (i + 1)) → z ≡ x ++ map f (flat_map g (up_to (i + 1)))
-  some_more g i x y z p q = after (flat_map g (up_to i)) (g (i + 1)) (flat_map g (up_to (i + 1))) x y z p q (joined_up_more g i)
-
-  pub one_more : (g : ℕ → A) (i : ℕ) (x y z : List ℕ) → y ≡ x ++ map f (map g (up_to i)) → z ≡ y ++ f (g (i + 1)) ∷ [] → z ≡ x ++ map f (map g (up_to (i + 1)))
-  one_more g i x y z p q = after (map g (up_to i)) (g (i + 1) ∷ []) (map g (up_to (i + 1))) x y z p q (map-range_with_len_more g 1 i (i + 1) (omega arith))
-
-  pub all_done : (l : ℕ → List A) (i n : ℕ) (x y : List ℕ) → i ≡ n → y ≡ x ++ map f (l i) → y ≡ x ++ map f (l n)
-  all_done l i n x y e p = p ∙ ap (λ k. x ++ map f (l k)) e
+-- the words of two parts, one of each at most
+pub two_words : {A : Type 0} (f : A → ℕ) (us vs : List A) (first second : Option ℕ) → option_to_list first ≡ map f us → option_to_list second ≡ map f vs → flat_map option_to_list (first ∷ second ∷ []) ≡ map f (us ++ vs)
+two_words f us vs first second p q =
+    ap (λ l. option_to_list first ++ l) (append-nil (option_to_list second)) ∙ ap (λ l. l ++ option_to_list second) p ∙ ap (λ l. map f us ++ l) q ∙ sym (map-append f us vs)
 
 -- a cell is given exactly where its bracket is
 module _ (N : ℕ) (bytes : List ℕ) (i : ℕ) where

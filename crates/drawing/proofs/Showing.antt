@@ -13,8 +13,8 @@ use Rattle.puzzle.specs.Accepted.{EntryOn, Sound}
 use Rattle.drawing.specs.Drawn.{line_width, whole_length, frame_fits, row_fits, fits_place}
 use Rattle.drawing.specs.Redrawn.{is_given, is_signed, byte_between, cell_in, frame_byte, row_byte, drawn_byte, drawn_text}
 use Rattle.drawing.specs.Theorems.{WellDrawn, DrawsRight}
-use Rattle.drawing.proofs.Fitting.{fits_by, line_end, frame_line, row_line}
-use Rattle.drawing.proofs.Redrawing.{feed_at, frame_at, row_at, whole_text}
+use Rattle.drawing.proofs.Fitting.{fits_by_rest, fits_by, line_end, frame_line, row_line}
+use Rattle.drawing.proofs.Redrawing.{byte_by_rest, feed_at, frame_at, row_at, whole_text}
 use Rattle.drawing.proofs.Returning.{drawn_again}
 
 -- a cell that is claimed has a value of the board
@@ -65,19 +65,9 @@ module _ (P : Puzzle) (sound : Sound P) where
     abbrev left : ℕ
     left = cell_in N (l / 2) (c / 4 - 1)
 
-    abbrev byte_by_rest : ℕ → ℕ
-    byte_by_rest x =
-        cond (eqb x 0) (cond (ltb 0 c && ltb c (4 * N)) (byte_between P.signs left (left + 1) 60 62 124) 124)
-        (cond (eqb x 1) (cond given_there 91 32) (cond (eqb x 2) (48 + value_there % 10) (cond given_there 93 32)))
-
-    abbrev fits_by_rest : ℕ → ℕ → ℕ → Bool
-    fits_by_rest o x b =
-        cond (eqb x 0) (eqb b 124 || (ltb 0 c && ltb c (4 * N) && (eqb b 60 || eqb b 62)))
-        (cond (eqb x 1) (eqb b 32 || eqb b 91) (cond (eqb x 2) (leb 49 b && leb b (48 + N)) (eqb b (cond (eqb o 91) 93 32))))
-
     row_shown : (o : ℕ) → (c % 4 ≡ 3 → o ≡ cond given_there 91 32) → row_fits N c (row_byte N P l c) o ≡ true
     row_shown o before =
-        let whole : ℕ → Bool = λ x. fits_by_rest o x (byte_by_rest x) in
+        let whole : ℕ → Bool = λ x. fits_by_rest N c (byte_by_rest N P l c x) o x in
         ⊎_elim
         (λ (e : c % 4 ≡ 0). ap whole e ∙ between_fits (ltb 0 c && ltb c (4 * N)) (is_signed P.signs left (left + 1)) (is_signed P.signs (left + 1) left) 60 62 124)
         (λ (d0 : c % 4 ≡ 0 → ⊥).
@@ -101,7 +91,7 @@ module _ (P : Puzzle) (sound : Sound P) where
 
     -- the byte two places before the last of a cell is its first
     opening_shown : c % 4 ≡ 1 → row_byte N P l c ≡ cond given_there 91 32
-    opening_shown e = ap byte_by_rest e
+    opening_shown e = ap (byte_by_rest N P l c) e
 
   read_at : (k : ℕ) → k < whole_length N → drawn_byte P k ≡ get_or bytes k 0
   read_at k h = sym (get_or-map-range_with_len (drawn_byte P) 0 (whole_length N) k k 0 h (omega arith))
@@ -115,15 +105,15 @@ module _ (P : Puzzle) (sound : Sound P) where
       let line_in : l < 2 * N + 1 = div_below k W (2 * N + 1) (omega arith) h in
       let column_in : c < W = mod_below k W (omega arith) in
       ⊎_elim
-      (λ (e : c ≡ 4 * N + 1). sym (fits_by N bytes k l c 10 o refl refl (feed_at P k W refl e ∙ read_at k h) refl) ∙ line_end N l c 10 o e)
+      (λ (e : c ≡ 4 * N + 1). sym (fits_by N bytes k l c 10 o refl refl (feed_at N P refl k l c refl refl e ∙ read_at k h) refl) ∙ line_end N l c 10 o e)
       (λ (d : c ≡ 4 * N + 1 → ⊥).
       ⊎_elim
       (λ (e : l % 2 ≡ 0).
       let b = frame_byte N P.signs l c in
-      sym (fits_by N bytes k l c b o refl refl (frame_at P k W refl d e ∙ read_at k h) refl) ∙ frame_line N l c b o d e ∙ frame_shown l c)
+      sym (fits_by N bytes k l c b o refl refl (frame_at N P refl k l c refl refl d e ∙ read_at k h) refl) ∙ frame_line N l c b o d e ∙ frame_shown l c)
       (λ (f : l % 2 ≡ 0 → ⊥).
       let b = row_byte N P l c in
-      sym (fits_by N bytes k l c b o refl refl (row_at P k W refl d f ∙ read_at k h) refl) ∙ row_line N l c b o d f
+      sym (fits_by N bytes k l c b o refl refl (row_at N P refl k l c refl refl d f ∙ read_at k h) refl) ∙ row_line N l c b o d f
       ∙ row_shown l c line_in f (omega arith) o
       (λ e.
       let j : k - 2 ≡ l * W + (c - 2) = omega arith in
@@ -131,7 +121,7 @@ module _ (P : Puzzle) (sound : Sound P) where
       let jc : (k - 2) % W ≡ c - 2 = ap (λ x. x % W) j ∙ mod-mul-add l W (c - 2) (omega arith) in
       let q : (c - 2) / 4 ≡ c / 4 = omega arith in
       sym (read_at (k - 2) (omega arith))
-      ∙ sym (row_at P (k - 2) W refl (λ g. omega arith) (λ g. f (sym (ap (λ x. x % 2) jl) ∙ g)))
+      ∙ sym (row_at N P refl (k - 2) ((k - 2) / W) ((k - 2) % W) refl refl (λ g. omega arith) (λ g. f (sym (ap (λ x. x % 2) jl) ∙ g)))
       ∙ ap (λ x. row_byte N P x ((k - 2) % W)) jl ∙ ap (λ x. row_byte N P l x) jc
       ∙ opening_shown l (c - 2) line_in f (omega arith) (omega arith)
       ∙ ap (λ x. cond (is_given P.givens (cell_in N (l / 2) x)) 91 32) q))

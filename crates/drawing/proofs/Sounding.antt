@@ -5,6 +5,7 @@ use Rattle.std.proofs.lemmas.Nat.{mul-le}
 use Rattle.std.proofs.lemmas.List.FromFn.{length-map-range_with_len}
 use Rattle.std.proofs.ByRecursion.{All-append, All-map, All-weaker}
 use Rattle.std.proofs.lemmas.List.{append-nil}
+use Rattle.std.proofs.lemmas.List.Concat.{flat_map_single}
 use Rattle.futoshiki.specs.declared.sign.Sign.{Sign}
 use Rattle.futoshiki.specs.Board.{InRange, up_to, SharingSide}
 use Rattle.futoshiki.specs.Rules.{OnBoard}
@@ -17,7 +18,7 @@ use Rattle.puzzle.specs.Reading.{Puzzle, Tables}
 use Rattle.puzzle.specs.Accepted.{IsRecord, givens_of, claims_of, signs_of, puzzle_of, EntryOn, Registered, Room, Sound}
 use Rattle.drawing.specs.Drawn.{byte_before, drawn_entry, drawn_given, drawn_signs, drawn_puzzle, puzzle_items}
 use Rattle.drawing.specs.Theorems.{WellDrawn, WordsAccepted}
-use Rattle.drawing.proofs.Registering.{once_joined, once_short, length_joined, map_joined, any_counted}
+use Rattle.drawing.proofs.Registering.{once_joined, once_short, length_joined, any_counted}
 use Rattle.drawing.proofs.Signing.{SignOf, same_cells, signs_sound, cell_signs_once, two_signs}
 use Rattle.drawing.proofs.Spots.{digit_drawn}
 
@@ -128,7 +129,7 @@ module _ (N : ℕ) (bytes : List ℕ) (drawn : WellDrawn N bytes) where
 
   claims_once : Once SameCell (map (drawn_entry N bytes) cells)
   claims_once =
-      subst (Once SameCell) (map_joined (drawn_entry N bytes) 1 (N * N))
+      subst (Once SameCell) (flat_map_single (drawn_entry N bytes) cells)
       (once_joined SameCell EntryOf same_cell (λ i. drawn_entry N bytes i ∷ []) 1 (N * N) (λ i _ _. (cell_drawn N bytes i, tt)) (λ i _ _. (tt, tt)))
 
   signs_all : (Q : Sign → Type 0) → ((i : ℕ) (s : Sign) → SignOf N i s → Q s) → AllByRecursion Q (flat_map (drawn_signs N bytes) cells)

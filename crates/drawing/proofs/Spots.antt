@@ -5,7 +5,7 @@ use Rattle.std.proofs.lemmas.Bool.{eqb-true, ltb-true, leb-true, and_parts, or_c
 use Rattle.futoshiki.specs.Board.{InRange}
 use Rattle.drawing.specs.Drawn.{line_width, whole_length, frame_fits, row_fits, byte_fits, fits_place, digit_place, byte_right, byte_below}
 use Rattle.drawing.specs.Theorems.{WellDrawn}
-use Rattle.drawing.proofs.Fitting.{fits_by, row_line, frame_line}
+use Rattle.drawing.proofs.Fitting.{fits_by_rest, fits_by, row_line, frame_line}
 
 -- a place by its line and column
 pub fits_at : (N : ℕ) (bytes : List ℕ) (k l c : ℕ) → k ≡ l * line_width N + c → c < line_width N → fits_place N bytes k ≡ byte_fits N l c (get_or bytes k 0) (get_or bytes (k - 2) 0)
@@ -18,7 +18,7 @@ fits_at N bytes k l c e h =
 digit_row : (N c b o : ℕ) → row_fits N (4 * c + 2) b o ≡ true → (49 ≤ b) × (b ≤ 48 + N)
 digit_row N c b o h =
     let e : (4 * c + 2) % 4 ≡ 2 = omega arith in
-    let P : ℕ → Type 0 = λ x. cond (eqb x 0) (eqb b 124 || (ltb 0 (4 * c + 2) && ltb (4 * c + 2) (4 * N) && (eqb b 60 || eqb b 62))) (cond (eqb x 1) (eqb b 32 || eqb b 91) (cond (eqb x 2) (leb 49 b && leb b (48 + N)) (eqb b (cond (eqb o 91) 93 32)))) ≡ true in
+    let P : ℕ → Type 0 = λ x. fits_by_rest N (4 * c + 2) b o x ≡ true in
     let w = and_parts (leb 49 b) (leb b (48 + N)) (subst P e h) in
     (leb-true 49 b w.0, leb-true b (48 + N) w.1)
 
@@ -26,7 +26,7 @@ digit_row N c b o h =
 sign_row : (N c b o : ℕ) → row_fits N (4 * c + 4) b o ≡ true → ((b ≡ 60) ⊎ (b ≡ 62)) → c + 1 < N
 sign_row N c b o h s =
     let e : (4 * c + 4) % 4 ≡ 0 = omega arith in
-    let P : ℕ → Type 0 = λ x. cond (eqb x 0) (eqb b 124 || (ltb 0 (4 * c + 4) && ltb (4 * c + 4) (4 * N) && (eqb b 60 || eqb b 62))) (cond (eqb x 1) (eqb b 32 || eqb b 91) (cond (eqb x 2) (leb 49 b && leb b (48 + N)) (eqb b (cond (eqb o 91) 93 32)))) ≡ true in
+    let P : ℕ → Type 0 = λ x. fits_by_rest N (4 * c + 4) b o x ≡ true in
     ⊎_elim
     (λ (q : eqb b 124 ≡ true). let v = eqb-true b 124 q in ⊎_elim (λ (x : b ≡ 60). absurd (omega arith)) (λ (x : b ≡ 62). absurd (omega arith)) s)
     (λ q.

@@ -1,16 +1,11 @@
 -- The text that draws a board with its givens, its claims and its signs, place by place.
-use Rattle.std.specs.Prelude.{ℕ, ◌+◌, ◌-◌, ◌*◌, ◌/◌, ◌%◌, Bool, false, cond, ◌&&◌, ◌||◌, List, [], ◌∷◌, map, ◌==◌, nat_le, nat_lt}
-use Rattle.std.specs.List.{range_with_len}
+use Rattle.std.specs.Prelude.{ℕ, ◌+◌, ◌-◌, ◌*◌, ◌/◌, ◌%◌, Bool, cond, ◌&&◌, List, [], map, ◌==◌, nat_le, nat_lt}
+use Rattle.std.specs.List.{range_with_len, list_any}
 use Rattle.futoshiki.specs.declared.sign.Sign.{Sign}
 use Rattle.words.specs.declared.entry.Entry.{Entry}
 use Rattle.puzzle.specs.Reading.{Puzzle}
 use Rattle.puzzle.specs.Meaning.{claim_at}
 use Rattle.drawing.specs.Drawn.{line_width, whole_length}
-
--- whether some member passes a test
-abbrev pub any_of : {A : Type 0} → (A → Bool) → List A → Bool
-any_of test [] = false
-any_of test (x ∷ xs) = test x || any_of test xs
 
 -- whether an entry is of cell i
 abbrev pub is_cell : ℕ → Entry → Bool
@@ -18,14 +13,14 @@ is_cell i e = e.cell == i
 
 -- whether a cell is given
 unfoldable pub is_given : List Entry → ℕ → Bool
-is_given gs i = any_of (is_cell i) gs
+is_given gs i = list_any (is_cell i) gs
 
 -- whether a sign, or some sign, says that cell i holds less than cell j
 abbrev pub says_less : ℕ → ℕ → Sign → Bool
 says_less i j s = s.lesser == i && s.greater == j
 
 unfoldable pub is_signed : List Sign → ℕ → ℕ → Bool
-is_signed ss i j = any_of (says_less i j) ss
+is_signed ss i j = list_any (says_less i j) ss
 
 -- the byte between two cells: that the first holds less, that the second does, or no sign
 abbrev pub byte_between : List Sign → ℕ → ℕ → ℕ → ℕ → ℕ → ℕ

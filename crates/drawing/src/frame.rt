@@ -1,99 +1,91 @@
 ghost use Rattle.std.specs.Prelude.{◌≡◌, ◌≤◌, slice_index};
-ghost use Rattle.drawing.specs.Drawn.{first_line, line_width, whole_length, frame_fits, row_fits, fits_place, first_unfit};
+ghost use Rattle.drawing.specs.Drawn.{first_line, frame_fits, row_fits, fits_place, first_unfit};
 
-// The byte at a place, 0 after the last.
-pub(crate) fn byte_at(text: &[u8], k: usize) -> u8
-    ensures { result ≡ slice_index text.now k }
-{
-    if k < text.len() { text[k] } else { 0 }
-}
+use crate::grid::Grid;
+
+// The characters of the longest line, and one more.
+const LINE_AND_ONE: usize = 38;
 
 // The characters of the first line, 38 at most.
 pub(crate) fn line_length(text: &[u8]) -> usize
     ensures is { result ≡ first_line text.now }
     ensures most { result ≤ 38 }
 {
-    for k in 0..38 {
-        if k >= text.len() || text[k] == b'\n' {
-            return k;
+    let start = &text[..LINE_AND_ONE.min(text.len())];
+    start
+        .iter()
+        .position(|b| *b == b'\n')
+        .unwrap_or(start.len())
+}
+
+impl Grid {
+    // Whether a byte may stand in a column of a frame line: a sign only between two rows, in the middle under a cell.
+    fn stands_in_frame(self, line: usize, column: usize, byte: u8) -> bool
+        ensures { result ≡ frame_fits self.side line column byte }
+    {
+        if column % 4 == 0 {
+            return byte == b'+';
+        }
+        if byte == b'-' {
+            return true;
+        }
+        column % 4 == 2 && 0 < line && line < 2 * self.side && (byte == b'^' || byte == b'v')
+    }
+
+    // Whether a byte may stand in a column of a row of cells, by the byte two places before it. A remainder and no enum: a cell
+    // is four columns wide, which are its border, its opening, its digit and its closing.
+    fn stands_in_row(self, column: usize, byte: u8, opening: u8) -> bool
+        ensures { result ≡ row_fits self.side column byte opening }
+    {
+        match column % 4 {
+            0 => {
+                byte == b'|'
+                    || (0 < column && column < 4 * self.side && (byte == b'<' || byte == b'>'))
+            }
+            1 => byte == b' ' || byte == b'[',
+            2 => b'1' <= byte && byte <= b'0' + self.side as u8,
+            _ => byte == if opening == b'[' { b']' } else { b' ' },
         }
     }
-    38
 }
 
-// A line with its line feed.
-pub(crate) fn width(side: usize) -> usize
-    requires { side ≤ 9 }
-    ensures { result ≡ line_width side }
-{
-    4 * side + 2
+// A text that is looked at as a drawing in a grid.
+#[derive(Clone, Copy)]
+pub(crate) struct Drawing<'t> {
+    pub(crate) grid: Grid,
+    pub(crate) text: &'t [u8],
 }
 
-// The places of a whole drawing.
-pub(crate) fn places(side: usize) -> usize
-    requires { side ≤ 9 }
-    ensures is { result ≡ whole_length side }
-    ensures most { result ≤ 722 }
-{
-    (2 * side + 1) * width(side)
-}
-
-// Whether a byte may stand in a column of a frame line: a sign only between two rows, in the middle under a cell.
-fn stands_in_frame(side: usize, line: usize, column: usize, byte: u8) -> bool
-    requires { side ≤ 9 }
-    ensures { result ≡ frame_fits side line column byte }
-{
-    if column % 4 == 0 {
-        return byte == b'+';
+impl Drawing<'_> {
+    // The byte at a place, 0 after the last: 0 and no `Option`, as 0 is no byte of a drawing, so no place after the last fits.
+    pub(crate) fn byte_at(&self, k: usize) -> u8
+        ensures { result ≡ slice_index self.now.text.now k }
+    {
+        self.text.get(k).copied().unwrap_or(0)
     }
-    if byte == b'-' {
-        return true;
-    }
-    column % 4 == 2 && 0 < line && line < 2 * side && (byte == b'^' || byte == b'v')
-}
 
-// Whether a byte may stand in a column of a row of cells, by the byte two places before it.
-fn stands_in_row(side: usize, column: usize, byte: u8, opening: u8) -> bool
-    requires { side ≤ 9 }
-    ensures { result ≡ row_fits side column byte opening }
-{
-    match column % 4 {
-        0 => byte == b'|' || (0 < column && column < 4 * side && (byte == b'<' || byte == b'>')),
-        1 => byte == b' ' || byte == b'[',
-        2 => b'1' <= byte && byte <= b'0' + side as u8,
-        _ => byte == if opening == b'[' { b']' } else { b' ' },
-    }
-}
-
-// Whether the byte at a place may stand there.
-fn stands(side: usize, text: &[u8], k: usize) -> bool
-    requires { side ≤ 9 }
-    ensures { result ≡ fits_place side text.now k }
-{
-    let long = width(side);
-    let line = k / long;
-    let column = k % long;
-    let byte = byte_at(text, k);
-    if column == 4 * side + 1 {
-        byte == b'\n'
-    } else if line % 2 == 0 {
-        stands_in_frame(side, line, column, byte)
-    } else {
-        stands_in_row(side, column, byte, byte_at(text, k.saturating_sub(2)))
-    }
-}
-
-// The first place that does not fit; where all fit, the place after the last.
-pub(crate) fn unfit_place(side: usize, text: &[u8]) -> usize
-    requires { side ≤ 9 }
-    ensures is { result ≡ first_unfit side text.now }
-    ensures most { result ≤ 722 }
-{
-    let end = places(side);
-    for k in 0..end {
-        if !stands(side, text, k) {
-            return k;
+    // Whether the byte at a place may stand there.
+    fn stands(&self, k: usize) -> bool
+        ensures { result ≡ fits_place self.now.grid.side self.now.text.now k }
+    {
+        let (line, column) = self.grid.spot_of(k);
+        let byte = self.byte_at(k);
+        if column == 4 * self.grid.side + 1 {
+            byte == b'\n'
+        } else if line % 2 == 0 {
+            self.grid.stands_in_frame(line, column, byte)
+        } else {
+            let opening = self.byte_at(k.saturating_sub(2));
+            self.grid.stands_in_row(column, byte, opening)
         }
     }
-    end
+
+    // The first place that does not fit; where all fit, the place after the last.
+    pub(crate) fn unfit_place(&self) -> usize
+        ensures is { result ≡ first_unfit self.now.grid.side self.now.text.now }
+        ensures most { result ≤ 722 }
+    {
+        let end = self.grid.places();
+        (0..end).find(|k| !self.stands(*k)).unwrap_or(end)
+    }
 }

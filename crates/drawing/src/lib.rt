@@ -1,9 +1,11 @@
 // A board drawn with its solution as a text: the puzzle's words that it stands for, and the text of a puzzle.
 #![tactic(auto)]
 
+mod board;
 mod cells;
 mod example;
 mod frame;
+mod grid;
 mod listed;
 mod shown;
 mod taken;

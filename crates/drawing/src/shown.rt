@@ -1,155 +1,116 @@
 ghost use Rattle.std.specs.Prelude.{◌≡◌, ◌%◌, ◌≤◌, IfOk};
-ghost use Rattle.puzzle.specs.Meaning.{claim_at, puzzle_from};
-ghost use Rattle.drawing.specs.Redrawn.{is_given, says_less, is_signed, byte_between, cell_in, frame_byte, row_byte, drawn_byte, drawn_text};
+ghost use Rattle.puzzle.specs.Poses.{puzzle_in};
+ghost use Rattle.drawing.specs.Redrawn.{is_given, is_signed, byte_between, frame_byte, row_byte, drawn_byte, drawn_text};
 ghost use Rattle.drawing.specs.Theorems.{DrawsRight};
 
-use crate::frame::{places, width};
+use crate::grid::Grid;
 use futoshiki::Sign;
+use puzzle::{Records, claimed_value};
 use std::alloc::{AllocError, Global};
-use words::Entry;
 
-// Whether a cell is given.
-fn given_in(givens: &[Entry], cell: usize) -> bool
-    ensures { result ≡ is_given givens.now cell }
-{
-    for e in givens {
-        if usize::from(e.cell) == cell {
-            return true;
+// A board and the grid of its side, in which it is drawn.
+#[derive(Clone, Copy)]
+struct Shown<'g, 'c, 's> {
+    grid: Grid,
+    board: Records<'g, 'c, 's>,
+    ghost same: { grid.side ≡ board.side },
+}
+
+impl Shown<'_, '_, '_> {
+    // Whether a cell is given.
+    fn is_given(&self, cell: u16) -> bool
+        ensures { result ≡ is_given self.now.board.givens.now cell }
+    {
+        self.board.givens.iter().any(|e| e.cell == cell)
+    }
+
+    // Whether some sign says that the first cell holds less than the second.
+    fn is_signed(&self, lesser: u16, greater: u16) -> bool
+        ensures { result ≡ is_signed self.now.board.signs.now lesser greater }
+    {
+        let sign = Sign { lesser, greater };
+        self.board.signs.iter().any(|s| *s == sign)
+    }
+
+    // The byte between two cells: `less` where the first holds less, `more` where the second does, else `none`.
+    fn between(&self, i: u16, j: u16, less: u8, more: u8, none: u8) -> u8
+        ensures { result ≡ byte_between self.now.board.signs.now i j less more none }
+    {
+        if self.is_signed(i, j) {
+            less
+        } else if self.is_signed(j, i) {
+            more
+        } else {
+            none
         }
     }
-    false
-}
 
-// The value of a cell's first claim, 0 where it has none.
-fn claimed_in(claims: &[Entry], cell: usize) -> u8
-    ensures { result ≡ claim_at claims.now cell }
-{
-    for e in claims {
-        if usize::from(e.cell) == cell {
-            return e.value;
+    // The byte in a column of a frame line.
+    fn frame_byte(&self, line: usize, column: usize) -> u8
+        requires { (line ≤ 1000) × (column ≤ 100) × (line % 2 ≡ 0) }
+        ensures { result ≡ frame_byte self.now.grid.side self.now.board.signs.now line column }
+    {
+        if column % 4 == 0 {
+            return b'+';
+        }
+        if column % 4 == 2 && 0 < line && line < 2 * self.grid.side {
+            let above = self.grid.cell_in(line / 2 - 1, column / 4);
+            let below = above + self.grid.side as u16;
+            return self.between(above, below, b'^', b'v', b'-');
+        }
+        b'-'
+    }
+
+    // The byte in a column of a row of cells: by a remainder and no enum, as a cell is four columns wide.
+    fn row_byte(&self, line: usize, column: usize) -> u8
+        requires { (line ≤ 1000) × (column ≤ 100) }
+        ensures { result ≡ row_byte self.now.grid.side (puzzle_in self.now.board) line column }
+    {
+        if column % 4 == 0 {
+            if 0 < column && column < 4 * self.grid.side {
+                let left = self.grid.cell_in(line / 2, column / 4 - 1);
+                return self.between(left, left + 1, b'<', b'>', b'|');
+            }
+            return b'|';
+        }
+        let cell = self.grid.cell_in(line / 2, column / 4);
+        match column % 4 {
+            1 => if self.is_given(cell) { b'[' } else { b' ' },
+            2 => b'0' + claimed_value(self.board.claims, usize::from(cell)) % 10,
+            _ => if self.is_given(cell) { b']' } else { b' ' },
         }
     }
-    0
-}
 
-// Whether it is this sign that says that the first cell holds less than the second.
-fn says(sign: Sign, lesser: usize, greater: usize) -> bool
-    ensures { result ≡ says_less lesser greater sign }
-{
-    usize::from(sign.lesser) == lesser && usize::from(sign.greater) == greater
-}
-
-// Whether some sign says that the first cell holds less than the second.
-fn signed_in(signs: &[Sign], lesser: usize, greater: usize) -> bool
-    ensures { result ≡ is_signed signs.now lesser greater }
-{
-    for s in signs {
-        if says(*s, lesser, greater) {
-            return true;
+    // The byte at a place.
+    fn byte_for(&self, k: usize) -> u8
+        requires { k ≤ 722 }
+        ensures { result ≡ drawn_byte (puzzle_in self.now.board) k }
+    {
+        let (line, column) = self.grid.spot_of(k);
+        if column == 4 * self.grid.side + 1 {
+            b'\n'
+        } else if line % 2 == 0 {
+            self.frame_byte(line, column)
+        } else {
+            self.row_byte(line, column)
         }
-    }
-    false
-}
-
-// The byte between two cells: `less` where the first holds less, `more` where the second does, else `none`.
-fn between(signs: &[Sign], i: usize, j: usize, less: u8, more: u8, none: u8) -> u8
-    ensures { result ≡ byte_between signs.now i j less more none }
-{
-    if signed_in(signs, i, j) {
-        less
-    } else if signed_in(signs, j, i) {
-        more
-    } else {
-        none
-    }
-}
-
-// The cell whose row and column, from 0, are these.
-fn cell_in(side: usize, row: usize, column: usize) -> usize
-    requires { (side ≤ 9) × (row ≤ 1000) × (column ≤ 100) }
-    ensures is { result ≡ cell_in side row column }
-    ensures most { result ≤ 10000 }
-{
-    row * side + column + 1
-}
-
-// The byte in a column of a frame line.
-fn frame_byte(side: usize, signs: &[Sign], line: usize, column: usize) -> u8
-    requires { (side ≤ 9) × (line ≤ 1000) × (column ≤ 100) × (line % 2 ≡ 0) }
-    ensures { result ≡ frame_byte side signs.now line column }
-{
-    if column % 4 == 0 {
-        return b'+';
-    }
-    if column % 4 == 2 && 0 < line && line < 2 * side {
-        let above = cell_in(side, line / 2 - 1, column / 4);
-        return between(signs, above, above + side, b'^', b'v', b'-');
-    }
-    b'-'
-}
-
-// The byte in a column of a row of cells.
-fn row_byte(
-    side: usize,
-    givens: &[Entry],
-    claims: &[Entry],
-    signs: &[Sign],
-    line: usize,
-    column: usize,
-) -> u8
-    requires { (side ≤ 9) × (line ≤ 1000) × (column ≤ 100) }
-    ensures { result ≡ row_byte side (puzzle_from side givens.now claims.now signs.now) line column }
-{
-    if column % 4 == 0 {
-        if 0 < column && column < 4 * side {
-            let left = cell_in(side, line / 2, column / 4 - 1);
-            return between(signs, left, left + 1, b'<', b'>', b'|');
-        }
-        return b'|';
-    }
-    let cell = cell_in(side, line / 2, column / 4);
-    match column % 4 {
-        1 => if given_in(givens, cell) { b'[' } else { b' ' },
-        2 => b'0' + claimed_in(claims, cell) % 10,
-        _ => if given_in(givens, cell) { b']' } else { b' ' },
-    }
-}
-
-// The byte at a place.
-fn byte_for(side: usize, givens: &[Entry], claims: &[Entry], signs: &[Sign], k: usize) -> u8
-    requires { (side ≤ 9) × (k ≤ 722) }
-    ensures { result ≡ drawn_byte (puzzle_from side givens.now claims.now signs.now) k }
-{
-    let long = width(side);
-    let line = k / long;
-    let column = k % long;
-    if column == 4 * side + 1 {
-        b'\n'
-    } else if line % 2 == 0 {
-        frame_byte(side, signs, line, column)
-    } else {
-        row_byte(side, givens, claims, signs, line, column)
     }
 }
 
 /// The text that draws a board of side 9 at most, with the values that are claimed, in brackets where they are given; none for a larger side.
-pub fn drawing_of(
-    heap: Global,
-    side: u32,
-    givens: &[Entry],
-    claims: &[Entry],
-    signs: &[Sign],
-) -> Result<Vec<u8>, AllocError>
-    ensures shown { IfOk result (λ bytes. bytes.items ≡ drawn_text (puzzle_from side givens.now claims.now signs.now)) }
+// Bytes, no `String`: they are what a file of the drawing has, and places are counted in bytes.
+pub fn drawing_of(heap: Global, board: Records<'_, '_, '_>) -> Result<Vec<u8>, AllocError>
+    ensures shown { IfOk result (λ bytes. bytes.items ≡ drawn_text (puzzle_in board.entry)) }
     ensures stands { DrawsRight }
 {
     let mut text = Vec::new(heap);
-    if side > 9 {
+    let Some(grid) = Grid::of_side(board.side) else {
         return Ok(text);
-    }
-    let n = side as usize;
-    for k in 0..places(n) {
-        text.push(byte_for(n, givens, claims, signs, k))?;
+    };
+    let shown = Shown { grid, board };
+    // A loop and no chain: in one the closure would need clauses of its own, of what each place's byte is.
+    for k in 0..grid.places() {
+        text.push(shown.byte_for(k))?;
     }
     Ok(text)
 }

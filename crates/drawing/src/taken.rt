@@ -1,39 +1,24 @@
-ghost use Rattle.std.specs.Prelude.{◌≡◌, ◌/◌, ◌≤◌, true, false, IfOk, Ok, MatchOption, MatchResult};
-ghost use Rattle.drawing.specs.Drawn.{line_of_side, drawn_words, drawn_answer};
-ghost use Rattle.drawing.specs.Theorems.{WellDrawn, RefusedAs, DrawingStands};
+ghost use Rattle.std.specs.Prelude.{◌≡◌, IfOk, Ok, MatchResult};
+ghost use Rattle.drawing.specs.Drawn.{drawn_words, drawn_answer};
+ghost use Rattle.drawing.specs.Theorems.{RefusedAs, DrawingStands};
 
-use crate::cells::word_of;
-use crate::frame::{line_length, places, unfit_place, width};
-use crate::listed::{list_claims, list_givens, list_signs};
+use crate::board::Board;
+use crate::frame::{Drawing, line_length};
+use crate::grid::Grid;
+use crate::listed::word_of;
 use crate::undrawn::Undrawn;
 use std::alloc::{AllocError, Global};
-use words::Item;
+use words::{FUTOSHIKI, Item};
 
-// The number of the puzzle.
-const FUTOSHIKI: u8 = 1;
-
-// The side that a first line of so many characters is drawn for.
-fn side_of(characters: usize) -> Option<usize>
-    ensures { MatchOption result (line_of_side characters ≡ false) (λ n. (line_of_side characters ≡ true) × (n ≡ characters / 4) × (2 ≤ n) × (n ≤ 9)) }
-{
-    let side = characters / 4;
-    if characters % 4 == 1 && 2 <= side && side <= 9 {
-        Some(side)
-    } else {
-        None
-    }
-}
-
-// The words of a well-drawn text.
-fn all_words(heap: Global, side: usize, text: &[u8]) -> Result<Vec<u32>, AllocError>
-    requires { WellDrawn side text.now }
-    ensures { IfOk result (λ ws. ws.items ≡ drawn_words side text.now) }
+// The words of a drawn board.
+fn all_words(heap: Global, board: &Board) -> Result<Vec<u32>, AllocError>
+    ensures { IfOk result (λ ws. ws.items ≡ drawn_words board.now.drawing.grid.side board.now.drawing.text.now) }
 {
     let mut words = Vec::new(heap);
-    words.push(word_of(Item::Board(FUTOSHIKI, side as u8)))?;
-    list_givens(&mut words, side, text)?;
-    list_signs(&mut words, side, text)?;
-    list_claims(&mut words, side, text)?;
+    words.push(word_of(Item::Board(FUTOSHIKI, board.drawing.grid.side as u8)))?;
+    board.list_givens(&mut words)?;
+    board.list_signs(&mut words)?;
+    board.list_claims(&mut words)?;
     words.push(word_of(Item::End))?;
     Ok(words)
 }
@@ -45,14 +30,15 @@ pub fn words_of_drawing(heap: Global, text: &[u8]) -> Result<Vec<u32>, Undrawn>
     ensures stands { DrawingStands text.now }
 {
     let characters = line_length(text);
-    let Some(side) = side_of(characters) else {
+    let Some(grid) = Grid::of_line(characters) else {
         return Err(Undrawn::At(1, characters as u32 + 1));
     };
-    let place = unfit_place(side, text);
-    let end = places(side);
+    let drawing = Drawing { grid, text };
+    let place = drawing.unfit_place();
+    let end = grid.places();
     if place < end || text.len() > end {
-        let long = width(side);
-        return Err(Undrawn::At((place / long + 1) as u32, (place % long + 1) as u32));
+        let (line, column) = grid.spot_of(place);
+        return Err(Undrawn::At((line + 1) as u32, (column + 1) as u32));
     }
-    Ok(all_words(heap, side, text)?)
+    Ok(all_words(heap, &Board { drawing })?)
 }

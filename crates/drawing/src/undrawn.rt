@@ -1,7 +1,10 @@
-ghost use Rattle.std.specs.Prelude.{◌≡◌};
+ghost use Rattle.std.specs.Prelude.{◌≡◌, Some};
 ghost use Rattle.drawing.specs.declared.undrawn.Undrawn.TheVariants.{Memory};
+ghost use Rattle.drawing.specs.Texts.{undrawn_text};
 
 use std::alloc::AllocError;
+use std::error::Error;
+use std::fmt;
 
 /// Why a text gave no words.
 #[derive(Clone, Copy, PartialEq, Eq, Debug)]
@@ -19,3 +22,18 @@ impl From<AllocError> for Undrawn {
         Undrawn::Memory
     }
 }
+
+impl fmt::Display for Undrawn {
+    ghost output = { λ u. Some (undrawn_text u) };
+
+    fn fmt<W: fmt::Write>(&self, f: &mut fmt::Formatter<W>) -> fmt::Result {
+        match self {
+            Undrawn::At(line, column) => {
+                write!(f, "does not fit at line {line}, column {column}")
+            }
+            Undrawn::Memory => f.write_str("no memory"),
+        }
+    }
+}
+
+impl Error for Undrawn {}

@@ -4,7 +4,7 @@ use Rattle.std.specs.List.{AllByRecursion}
 use Rattle.std.proofs.ByRecursion.{All-map}
 use Rattle.std.proofs.lemmas.List.{ext_get_or}
 use Rattle.std.proofs.lemmas.List.FromFn.{length-map-range_with_len, get_or-map-range_with_len}
-use Rattle.std.proofs.lemmas.Bool.{eq-eqb, ne_eqb, cases_eq, cases_Bool, cases_order, cases_lt, both_ways}
+use Rattle.std.proofs.lemmas.Bool.{eq-eqb, ne_eqb, cases_eq, cases_Bool, cases_lt, both_ways}
 use Rattle.cnf.specs.Formula.{Assignment, value_of, Model}
 use Rattle.futoshiki.specs.declared.sign.Sign.{Sign}
 use Rattle.futoshiki.specs.Board.{InRange, up_to, cell_at, variable_at}
@@ -38,7 +38,7 @@ last_true_passes p (suc n) v w h = go (last_true_passes p n v) (p (suc n)) refl
 
 -- two numbers of which neither is less
 by_order : (m n : ℕ) → (m < n → ⊥) → (n < m → ⊥) → m ≡ n
-by_order m n p q = ⊎_elim (λ e. e) (⊎_elim (λ (l : m < n). absurd (p l)) (λ (l : n < m). absurd (q l))) (cases_order m n)
+by_order m n p q = omega arith
 
 -- the value that the assignment gives cell i
 abbrev pub value_in : ℕ → Assignment → ℕ → ℕ

@@ -1,16 +1,17 @@
 -- A draft that lists clauses more.
-use Rattle.std.proofs.Common.{◌≡◌, ℕ, ◌+◌, ◌-◌, ◌*◌, ◌<◌, ◌≤◌, List, [], ◌∷◌, ◌++◌, map, length, get_or, take, drop, ℤ, vec_items, vec_len, sym, refl, ap, ◌∙◌, subst, ⊎_elim, mul-one, mul-add, arith}
+use Rattle.std.proofs.Common.{◌≡◌, ℕ, ◌+◌, ◌-◌, ◌*◌, ◌<◌, ◌≤◌, List, [], ◌∷◌, ◌++◌, map, length, get_or, take, drop, sym, refl, ap, ◌∙◌, subst, ⊎_elim, mul-one, mul-add, arith}
 use Rattle.std.specs.List.{flat_map}
 use Rattle.std.proofs.lemmas.List.FromFn.{map-range_with_len_more}
 use Rattle.std.proofs.lemmas.List.{append-nil, append_assoc, length-append, length-drop, take_all, take_more, flat_map_more, take-append-le, drop-append-le, drop_at}
 use Rattle.std.proofs.lemmas.Bool.{cases_lt}
 use Rattle.cnf.specs.Formula.{Clause}
-use Rattle.cnf.specs.Tabled.{numbers_of, cut_out, cuts_from, tabled}
-use Rattle.cnf.proofs.Cuts.{length_numbers, cut_in, cut_falls}
+use Rattle.cnf.specs.Tabled.{cut_out, cuts_from, tabled}
+use Rattle.cnf.proofs.Cuts.{cut_in, cut_falls}
 use Rattle.futoshiki.specs.declared.draft.Draft.{Draft}
 use Rattle.futoshiki.specs.Board.{up_to}
 use Rattle.futoshiki.proofs.Stepping.{joined_up_more}
-use Rattle.futoshiki.specs.Drafts.{EndsFrom, EndsAt, BetweenClauses, draft_listing, GoesOn, HasMore, HasEnded}
+use Rattle.futoshiki.specs.Starts.{EndsFrom, EndsAt}
+use Rattle.futoshiki.specs.Drafts.{draft_listing, GoesOn}
 
 -- more literals leave a clause as it was
 cut_before : (ls c : Clause) (a b : ℕ) → b ≤ length ls → cut_out (ls ++ c) a b ≡ cut_out ls a b
@@ -56,73 +57,28 @@ ends_at_more : (n m : ℕ) (ss : List ℕ) → EndsAt n ss → n ≤ m → EndsA
 ends_at_more n m [] e h = absurd e
 ends_at_more n m (a ∷ bs) e h = ends_more n m a bs e h
 
-pub more_none : (d : Draft) → HasMore d d []
-more_none d = record { same_starts = refl; more_literals = sym (append-nil (numbers_of (vec_items d.literals))) }
+pub ends_after : (n m : ℕ) (ss ts : List ℕ) → EndsAt n ss → n ≤ m → ts ≡ ss ++ m ∷ [] → EndsAt m ts
+ends_after n m ss ts ended h e = let P : List ℕ → Type 0 = λ us. EndsAt m us in subst P (sym e) (ends_at_more n m ss ended h)
 
-pub more_then : (a b d : Draft) (c e : Clause) (l : ℤ) → HasMore a b c → HasMore b d (l ∷ []) → c ++ l ∷ [] ≡ e → HasMore a d e
-more_then a b d c e l p q h = record {
-  same_starts = q.same_starts ∙ p.same_starts;
-  more_literals = q.more_literals ∙ ap (λ ls. ls ++ l ∷ []) p.more_literals ∙ append_assoc (numbers_of (vec_items a.literals)) c (l ∷ []) ∙ ap (λ x. numbers_of (vec_items a.literals) ++ x) h;
-}
+-- a clause more in the literals, and its end in the starts
+pub tabled_after : (ls c : Clause) {ls' : Clause} (ss : List ℕ) {ts : List ℕ} (n m : ℕ) → n ≡ length ls → m ≡ n + length c → EndsAt n ss → ls' ≡ ls ++ c → ts ≡ ss ++ m ∷ [] → tabled ls' ts ≡ tabled ls ss ++ c ∷ []
+tabled_after ls c {ls'} ss {ts} n m counted count_more ended literals_more starts_more =
+    let P : ℕ → Type 0 = λ k. EndsAt k ss in
+    let e = length-append ls c in
+    ap (λ xs. tabled xs ts) literals_more ∙ ap (tabled (ls ++ c)) starts_more
+    ∙ tabled_more ls c ss m (subst P counted ended) (omega arith)
 
-counted : (d : Draft) → vec_len d.literals ≡ length (numbers_of (vec_items d.literals))
-counted d = d.literals.ok.0 ∙ sym (length_numbers (vec_items d.literals))
-
-pub more_counted : (a b : Draft) (c : Clause) → HasMore a b c → vec_len b.literals ≡ vec_len a.literals + length c
-more_counted a b c p =
-    let e = length-append (numbers_of (vec_items a.literals)) c in
-    let x = counted a in
-    let y = counted b ∙ ap length p.more_literals in
-    omega arith
-
--- a clause that was put and ended is one clause more
-module _ (a b d : Draft) (c : Clause) (ready : BetweenClauses a) (p : HasMore a b c) (q : HasEnded b d) where
-  abbrev ls : Clause
-  ls = numbers_of (vec_items a.literals)
-
-  abbrev ss : List ℕ
-  ss = vec_items a.starts
-
-  long : vec_len b.literals ≡ length (ls ++ c)
-  long = counted b ∙ ap length p.more_literals
-
-  same_length : length (vec_items d.literals) ≡ vec_len b.literals
-  same_length = ap length q.same_literals ∙ sym b.literals.ok.0
-
-  starts_after : vec_items d.starts ≡ ss ++ vec_len b.literals ∷ []
-  starts_after = q.next_start ∙ ap (λ ts. ts ++ vec_len b.literals ∷ []) p.same_starts
-
-  ready_numbers : EndsAt (length ls) ss
-  ready_numbers = let P : ℕ → Type 0 = λ n. EndsAt n ss in subst P (sym (length_numbers (vec_items a.literals))) ready
-
-  ready_after : EndsAt (length (vec_items d.literals)) (vec_items d.starts)
-  ready_after =
-      let P : ℕ → List ℕ → Type 0 = λ n ts. EndsAt n ts in
-      let e = length-append ls c in
-      let h = ends_at_more (length ls) (vec_len b.literals) ss ready_numbers (let l = long in omega arith) in
-      let k : EndsAt (vec_len b.literals) (vec_items d.starts) = subst (λ ts. P (vec_len b.literals) ts) (sym starts_after) h in
-      subst (λ n. P n (vec_items d.starts)) (sym same_length) k
-
-  pub goes_clause : (most : ℕ) → length c ≤ most → GoesOn a d (c ∷ []) most
-  goes_clause most h = record {
-    between = ready_after;
-    lists = ap (λ xs. tabled (numbers_of xs) (vec_items d.starts)) q.same_literals ∙ ap (λ xs. tabled xs (vec_items d.starts)) p.more_literals ∙ ap (tabled (ls ++ c)) starts_after ∙ tabled_more ls c ss (vec_len b.literals) ready_numbers long;
-    few_literals = let m = more_counted a b c p in let s = same_length in let t = d.literals.ok.0 in omega arith;
-  }
-
-pub goes_nowhere : (d : Draft) → BetweenClauses d → GoesOn d d [] 0
-goes_nowhere d b = record { between = b; lists = sym (append-nil (draft_listing d)); few_literals = omega arith }
+pub goes_nowhere : (d : Draft) → GoesOn d d [] 0
+goes_nowhere d = record { lists = sym (append-nil (draft_listing d)); few_literals = omega arith }
 
 pub goes_then : (a b c : Draft) (cs ds es : List Clause) (m k n : ℕ) → GoesOn a b cs m → GoesOn b c ds k → cs ++ ds ≡ es → m + k ≤ n → GoesOn a c es n
 goes_then a b c cs ds es m k n p q e h = record {
-  between = q.between;
   lists = q.lists ∙ ap (λ x. x ++ ds) p.lists ∙ append_assoc (draft_listing a) cs ds ∙ ap (λ x. draft_listing a ++ x) e;
   few_literals = let x = p.few_literals in let y = q.few_literals in omega arith;
 }
 
 pub goes_as : (a b : Draft) (cs ds : List Clause) (m n : ℕ) → GoesOn a b cs m → cs ≡ ds → m ≤ n → GoesOn a b ds n
 goes_as a b cs ds m n p e h = record {
-  between = p.between;
   lists = p.lists ∙ ap (λ x. draft_listing a ++ x) e;
   few_literals = let x = p.few_literals in omega arith;
 }
@@ -140,6 +96,21 @@ module _ (a b c : Draft) (i per : ℕ) where
       goes_then a b c (flat_map g (up_to i)) cs (flat_map g (up_to (i + 1))) (per * i) per (per * (i + 1)) p q
       (ap (λ x. flat_map g (up_to i) ++ x) e ∙ sym (joined_up_more g i))
       (omega (arith, mul-add per i 1, mul-one per))
+
+-- one turn of a loop that counts from 1
+module _ (a b c : Draft) (k per : ℕ) (first : 1 ≤ k) where
+  same_turn : k - 1 + 1 ≡ k + 1 - 1
+  same_turn = omega arith
+
+  pub one_turn : (f : ℕ → Clause) {clause : Clause} → GoesOn a b (map f (up_to (k - 1))) (per * (k - 1)) → GoesOn b c (clause ∷ []) per → clause ≡ f k → GoesOn a c (map f (up_to (k + 1 - 1))) (per * (k + 1 - 1))
+  one_turn f {clause} p q e =
+      let P : ℕ → Type 0 = λ n. GoesOn a c (map f (up_to n)) (per * n) in
+      subst P same_turn (one_more a b c (k - 1) per f p q (e ∙ ap f (omega arith)))
+
+  pub group_turn : (g : ℕ → List Clause) {cs : List Clause} → GoesOn a b (flat_map g (up_to (k - 1))) (per * (k - 1)) → GoesOn b c cs per → cs ≡ g k → GoesOn a c (flat_map g (up_to (k + 1 - 1))) (per * (k + 1 - 1))
+  group_turn g {cs} p q e =
+      let P : ℕ → Type 0 = λ n. GoesOn a c (flat_map g (up_to n)) (per * n) in
+      subst P same_turn (group_more a b c (k - 1) per g p q (e ∙ ap g (omega arith)))
 
 -- the end of such a loop
 module _ (a b : Draft) (i n per most : ℕ) (e : i ≡ n) (h : per * n ≤ most) where

@@ -2,32 +2,34 @@
 use Rattle.std.proofs.Common.{◌≡◌, ℕ, ◌+◌, ◌-◌, ◌*◌, ◌≤◌, true, ◌&&◌, leb, ◌≢◌, List, [], ◌∷◌, length, Decides, sym, refl, ap, ◌∙◌, ⊎_elim, arith}
 use Rattle.std.specs.List.{AllByRecursion}
 use Rattle.std.proofs.lemmas.Bool.{leb-true, le-leb, and_parts, and_from}
+use Rattle.std.proofs.lemmas.Bool.Decides.{Decides-and}
 use Rattle.futoshiki.specs.declared.sign.Sign.{Sign}
-use Rattle.futoshiki.specs.Board.{InRange, cell_at, sharing_side, SharingSide}
+use Rattle.futoshiki.specs.Board.{cell_at, sharing_side, SharingSide}
 use Rattle.futoshiki.specs.Rules.{in_range, sign_kept, signs_kept, rules_kept, OnBoard, Rules}
 use Rattle.futoshiki.proofs.Adjacent.{shares, shared}
 use Rattle.futoshiki.proofs.Places.{same_block}
 
-range_from : (n k : ℕ) → in_range n k ≡ true → InRange n k
-range_from n k h = let w = and_parts (leb 1 k) (leb k n) h in (leb-true 1 k w.0, leb-true k n w.1)
+told_le : (a b : ℕ) → Decides (leb a b) (a ≤ b)
+told_le a b = (leb-true a b, le-leb a b)
 
-in_range_from : (n k : ℕ) → InRange n k → in_range n k ≡ true
-in_range_from n k w = and_from (leb 1 k) (leb k n) (le-leb 1 k w.0) (le-leb k n w.1)
+told_on : (N : ℕ) (s : Sign) → Decides (in_range (N * N) s.lesser && in_range (N * N) s.greater) (OnBoard N s)
+told_on N s =
+    Decides-and _ _
+    (Decides-and _ _ (told_le 1 s.lesser) (told_le s.lesser (N * N)))
+    (Decides-and _ _ (told_le 1 s.greater) (told_le s.greater (N * N)))
+
+told_few : (N m : ℕ) → Decides (leb 2 N && leb N 9 && leb m (2 * N * N)) (((2 ≤ N) × (N ≤ 9)) × (m ≤ 2 * N * N))
+told_few N m = Decides-and _ _ (Decides-and _ _ (told_le 2 N) (told_le N 9)) (told_le m (2 * N * N))
 
 module _ (N : ℕ) (some : 1 ≤ N) where
   sign_from : (s : Sign) → sign_kept N s ≡ true → OnBoard N s × SharingSide N s.lesser s.greater
   sign_from s h =
       let w = and_parts (in_range (N * N) s.lesser && in_range (N * N) s.greater) (sharing_side N s.lesser s.greater) h in
-      let v = and_parts (in_range (N * N) s.lesser) (in_range (N * N) s.greater) w.0 in
-      let l = range_from (N * N) s.lesser v.0 in
-      let g = range_from (N * N) s.greater v.1 in
-      ((l, g), shares N some s.lesser s.greater l g w.1)
+      let on = (told_on N s).0 w.0 in
+      (on, shares N some s.lesser s.greater on.0 on.1 w.1)
 
   sign_kept_from : (s : Sign) → OnBoard N s → SharingSide N s.lesser s.greater → sign_kept N s ≡ true
-  sign_kept_from s on side =
-      and_from (in_range (N * N) s.lesser && in_range (N * N) s.greater) (sharing_side N s.lesser s.greater)
-      (and_from (in_range (N * N) s.lesser) (in_range (N * N) s.greater) (in_range_from (N * N) s.lesser on.0) (in_range_from (N * N) s.greater on.1))
-      (shared N s.lesser s.greater side)
+  sign_kept_from s on side = and_from _ _ ((told_on N s).1 on) (shared N s.lesser s.greater side)
 
   signs_from : (signs : List Sign) → signs_kept N signs ≡ true → AllByRecursion (OnBoard N) signs × AllByRecursion (λ s. SharingSide N s.lesser s.greater) signs
   signs_from [] h = (tt, tt)
@@ -45,32 +47,23 @@ module _ (N : ℕ) (some : 1 ≤ N) where
 pub rules_from : (N : ℕ) (signs : List Sign) → rules_kept N signs ≡ true → Rules N signs
 rules_from N signs h =
     let w = and_parts (leb 2 N && leb N 9 && leb (length signs) (2 * N * N)) (signs_kept N signs) h in
-    let v = and_parts (leb 2 N && leb N 9) (leb (length signs) (2 * N * N)) w.0 in
-    let u = and_parts (leb 2 N) (leb N 9) v.0 in
-    let low = leb-true 2 N u.0 in
+    let few = (told_few N (length signs)).0 w.0 in
     let r = signs_from N (omega arith) signs w.1 in
     record {
-      two_at_least = low;
-      nine_at_most = leb-true N 9 u.1;
-      few_signs = leb-true (length signs) (2 * N * N) v.1;
+      two_at_least = few.0.0;
+      nine_at_most = few.0.1;
+      few_signs = few.1;
       all_on_board = r.0;
       all_share = r.1;
     }
 
 pub rules_kept_from : (N : ℕ) (signs : List Sign) → Rules N signs → rules_kept N signs ≡ true
 rules_kept_from N signs r =
-    and_from (leb 2 N && leb N 9 && leb (length signs) (2 * N * N)) (signs_kept N signs)
-    (and_from (leb 2 N && leb N 9) (leb (length signs) (2 * N * N)) (and_from (leb 2 N) (leb N 9) (le-leb 2 N r.two_at_least) (le-leb N 9 r.nine_at_most)) (le-leb (length signs) (2 * N * N) r.few_signs))
+    and_from _ _ ((told_few N (length signs)).1 ((r.two_at_least, r.nine_at_most), r.few_signs))
     (signs_kept_from N (let p = r.two_at_least in omega arith) signs r.all_on_board r.all_share)
 
 pub rules_told : (N : ℕ) (signs : List Sign) → Decides (rules_kept N signs) (Rules N signs)
 rules_told N signs = (rules_from N signs, rules_kept_from N signs)
-
--- where the numbers of a board are right, its signs decide
-pub signs_decide : (N : ℕ) (signs : List Sign) → 2 ≤ N → N ≤ 9 → length signs ≤ 2 * N * N → rules_kept N signs ≡ signs_kept N signs
-signs_decide N signs p q r =
-    ap (λ b. b && signs_kept N signs)
-    (and_from (leb 2 N && leb N 9) (leb (length signs) (2 * N * N)) (and_from (leb 2 N) (leb N 9) (le-leb 2 N p) (le-leb N 9 q)) (le-leb (length signs) (2 * N * N) r))
 
 -- cells that share a side differ
 pub sharing_apart : (N i j : ℕ) → SharingSide N i j → i ≢ j

@@ -2,6 +2,7 @@
 pub mod Board
 pub mod Rules
 pub mod Listing
+pub mod Starts
 pub mod Drafts
 pub mod Meaning
 pub mod Pairs

@@ -1,9 +1,9 @@
 -- What a Futoshiki, once it is listed, means.
-use Rattle.std.specs.Prelude.{◌≡◌, ℕ, List, vec_items}
+use Rattle.std.specs.Prelude.{◌≡◌, ℕ, List}
 use Rattle.cnf.specs.Formula.{Clause}
-use Rattle.cnf.specs.Tabled.{numbers_of, tabled}
 use Rattle.futoshiki.specs.declared.sign.Sign.{Sign}
 use Rattle.futoshiki.specs.declared.source.Futoshiki.{Futoshiki}
+use Rattle.futoshiki.specs.Drafts.{draft_listing}
 use Rattle.futoshiki.specs.Listing.{board_variables, board_listing}
 
 -- the number of variables that it tells
@@ -12,7 +12,7 @@ source_variables s = s.variables
 
 -- the clauses that it lists
 abbrev pub source_listing : Futoshiki → List Clause
-source_listing s = tabled (numbers_of (vec_items s.literals)) (vec_items s.starts)
+source_listing s = draft_listing s.clauses
 
 -- it tells the variables and the clauses of a board
 pub record TellsBoard (N : ℕ) (signs : List Sign) (s : Futoshiki) : Type 0 where

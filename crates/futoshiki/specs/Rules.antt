@@ -1,6 +1,6 @@
 -- The rules that a board keeps, as a test and in words.
-use Rattle.std.specs.Prelude.{ℕ, ◌*◌, ◌≤◌, Bool, true, ◌&&◌, List, [], ◌∷◌, length, nat_le}
-use Rattle.std.specs.List.{AllByRecursion}
+use Rattle.std.specs.Prelude.{ℕ, ◌*◌, ◌≤◌, Bool, ◌&&◌, List, length, nat_le}
+use Rattle.std.specs.List.{AllByRecursion, list_all}
 use Rattle.futoshiki.specs.declared.sign.Sign.{Sign}
 use Rattle.futoshiki.specs.Board.{InRange, sharing_side, SharingSide}
 
@@ -14,8 +14,7 @@ sign_kept N s = in_range (N * N) s.lesser && in_range (N * N) s.greater && shari
 
 -- whether every sign does
 abbrev pub signs_kept : ℕ → List Sign → Bool
-signs_kept N [] = true
-signs_kept N (s ∷ signs) = sign_kept N s && signs_kept N signs
+signs_kept N signs = list_all (sign_kept N) signs
 
 -- whether a board keeps the rules; more signs than these would sign some pair of cells twice
 abbrev pub rules_kept : ℕ → List Sign → Bool

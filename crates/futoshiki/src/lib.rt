@@ -5,9 +5,11 @@ mod draft;
 mod groups;
 mod keyed;
 mod rules;
+mod side;
 mod sign;
 mod source;
 
 pub use rules::rules_kept;
+pub use side::Side;
 pub use sign::Sign;
 pub use source::Futoshiki;

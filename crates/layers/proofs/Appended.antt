@@ -1,15 +1,11 @@
 -- Two listings, one after the other: what is told of them, their models, and when they are lawful. Assumes nothing.
-use Rattle.std.proofs.Common.{◌≡◌, ℕ, ◌+◌, ◌-◌, ◌<◌, ◌≤◌, min, true, ◌||◌, eqb, ltb, List, [], ◌∷◌, ◌++◌, length, get_or, sym, refl, ap, ◌∙◌, ⊎_elim, arith}
-use Rattle.std.proofs.lemmas.List.{length-append, get_or_append_left, get_or-append_right, get_or_past}
-use Rattle.std.proofs.lemmas.Bool.{cases_lt, and_parts, and_from, cond_both}
-use Rattle.cnf.specs.Formula.{Clause, Assignment, clause_true, all_true, proper_clause, all_proper}
+use Rattle.std.proofs.Common.{◌≡◌, ℕ, ◌+◌, ◌-◌, ◌<◌, ◌≤◌, min, true, ◌&&◌, ◌↔◌, List, [], ◌∷◌, ◌++◌, length, get_or, sym, refl, ap, ◌∙◌, ⊎_elim, arith}
+use Rattle.std.proofs.lemmas.List.{length-append, get_or_append_left, get_or-append_right}
+use Rattle.std.proofs.Math.Bool.{and_assoc}
+use Rattle.std.proofs.lemmas.Bool.{cases_lt, and_parts, and_from}
+use Rattle.cnf.specs.Formula.{Clause, Assignment, clause_true, all_true, Model, Lawful, proper_clause, all_proper}
 use Rattle.cnf.specs.Told.{told_clauses, clause_at}
 use Rattle.cnf.proofs.Asked.{clause_past, clause_in}
-
--- outside the listing there is none either
-pub clause_outside : (cs : List Clause) (k : ℕ) → length cs < k → clause_at cs k ≡ []
-clause_outside cs k h =
-    cond_both (eqb k 0 || ltb 65536 k) [] (get_or cs (k - 1) []) (λ c. c ≡ []) (λ _. refl) (λ _. get_or_past cs (k - 1) [] (omega arith))
 
 pub told_append : (cs ds : List Clause) → told_clauses (cs ++ ds) ≡ min (told_clauses cs + told_clauses ds) 65537
 told_append cs ds = let e = length-append cs ds in omega arith
@@ -37,26 +33,43 @@ module _ (cs ds : List Clause) (k m : ℕ) (is : m ≡ told_clauses cs) where
       ∙ ap (λ i. get_or ds i []) e
       ∙ sym (clause_in ds (k - m) (omega arith) (omega arith))
 
--- all clauses of both are true
-pub true_append : (a : Assignment) (cs ds : List Clause) → all_true a cs ≡ true → all_true a ds ≡ true → all_true a (cs ++ ds) ≡ true
-true_append a [] ds h k = k
-true_append a (c ∷ cs) ds h k = let w = and_parts (clause_true a c) (all_true a cs) h in and_from _ _ w.0 (true_append a cs ds w.1 k)
+-- what a join is told of
+pub ruleset appended = (told_append, clause_below, clause_above)
 
-pub true_parts : (a : Assignment) (cs ds : List Clause) → all_true a (cs ++ ds) ≡ true → (all_true a cs ≡ true) × (all_true a ds ≡ true)
-true_parts a [] ds h = (refl, h)
-true_parts a (c ∷ cs) ds h =
-    let w = and_parts (clause_true a c) (all_true a (cs ++ ds)) h in
-    let r = true_parts a cs ds w.1 in
-    (and_from _ _ w.0 r.0, r.1)
+-- the clauses of both are true when those of each are
+true_append : (a : Assignment) (cs ds : List Clause) → all_true a (cs ++ ds) ≡ (all_true a cs && all_true a ds)
+true_append a [] ds = refl
+true_append a (c ∷ cs) ds = ap (λ b. clause_true a c && b) (true_append a cs ds) ∙ sym (and_assoc (clause_true a c) (all_true a cs) (all_true a ds))
 
--- all clauses of both are proper
-pub proper_append : (n : ℕ) (cs ds : List Clause) → all_proper n cs ≡ true → all_proper n ds ≡ true → all_proper n (cs ++ ds) ≡ true
-proper_append n [] ds h k = k
-proper_append n (c ∷ cs) ds h k = let w = and_parts (proper_clause n c) (all_proper n cs) h in and_from _ _ w.0 (proper_append n cs ds w.1 k)
+-- and proper when those of each are
+proper_append : (n : ℕ) (cs ds : List Clause) → all_proper n (cs ++ ds) ≡ (all_proper n cs && all_proper n ds)
+proper_append n [] ds = refl
+proper_append n (c ∷ cs) ds = ap (λ b. proper_clause n c && b) (proper_append n cs ds) ∙ sym (and_assoc (proper_clause n c) (all_proper n cs) (all_proper n ds))
 
-pub proper_parts : (n : ℕ) (cs ds : List Clause) → all_proper n (cs ++ ds) ≡ true → (all_proper n cs ≡ true) × (all_proper n ds ≡ true)
-proper_parts n [] ds h = (refl, h)
-proper_parts n (c ∷ cs) ds h =
-    let w = and_parts (proper_clause n c) (all_proper n (cs ++ ds)) h in
-    let r = proper_parts n cs ds w.1 in
-    (and_from _ _ w.0 r.0, r.1)
+module _ (n : ℕ) (cs ds : List Clause) where
+  -- the models of both are those of the first that make the clauses of the second true
+  pub model_append : (a : Assignment) → Model n (cs ++ ds) a ↔ (Model n cs a × (all_true a ds ≡ true))
+  model_append a =
+      let e = true_append a cs ds in (
+        λ m. let w = and_parts (all_true a cs) (all_true a ds) (sym e ∙ m.holds) in (record { total = m.total; holds = w.0 }, w.1),
+        λ m. record { total = m.0.total; holds = e ∙ and_from (all_true a cs) (all_true a ds) m.0.holds m.1 },
+      )
+
+  -- both are lawful when the first is, the clauses of the second are proper, and the two are few enough
+  pub lawful_append : Lawful n (cs ++ ds) ↔ (Lawful n cs × (all_proper n ds ≡ true) × (length cs + length ds ≤ 65535))
+  lawful_append =
+      let e = proper_append n cs ds in
+      let l = length-append cs ds in (
+        λ w.
+            let few = w.few_clauses in
+            let p = and_parts (all_proper n cs) (all_proper n ds) (sym e ∙ w.clauses_proper) in
+            (record { some_variable = w.some_variable; few_variables = w.few_variables; few_clauses = omega arith; clauses_proper = p.0 }, p.1, omega arith),
+        λ w.
+            let few = w.2 in
+            record {
+              some_variable = w.0.some_variable;
+              few_variables = w.0.few_variables;
+              few_clauses = omega arith;
+              clauses_proper = e ∙ and_from (all_proper n cs) (all_proper n ds) w.0.clauses_proper w.1;
+            },
+      )

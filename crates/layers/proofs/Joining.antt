@@ -1,10 +1,10 @@
 -- Two lawful sources joined: a clause over 1 to n looks at no variable past n. Assumes nothing.
 use Rattle.std.proofs.Common.{◌≡◌, ℕ, zero, suc, ◌+◌, ◌≤◌, max, true, false, not, ◌&&◌, leb, ◌↔◌, List, [], ◌∷◌, length, take, ℤ, pos, negsuc, sym, refl, ap, ◌∙◌, arith}
-use Rattle.std.proofs.lemmas.List.{length-append, length-take, get_or-take}
+use Rattle.std.proofs.lemmas.List.{length-take, get_or-take}
 use Rattle.std.proofs.lemmas.Bool.{and_parts, and_from, leb-true, le-leb}
 use Rattle.cnf.specs.Formula.{Clause, Assignment, variable_of, literal_true, clause_true, all_true, Model, Lawful, is_among, fresh_literal, proper_after, proper_clause, all_proper}
 use Rattle.layers.specs.Joined.{joined_listing, JoinMeans}
-use Rattle.layers.proofs.Appended.{true_append, true_parts, proper_append}
+use Rattle.layers.proofs.Appended.{model_append, lawful_append}
 
 -- what a fresh literal names
 fresh_names : (n : ℕ) (seen : List ℕ) (l : ℤ) → fresh_literal n seen l ≡ true → (1 ≤ variable_of l) × (variable_of l ≤ n) × (not (is_among (variable_of l) seen) ≡ true)
@@ -62,41 +62,37 @@ front_model n cs a w h t =
 
 module _ (n m : ℕ) (cs ds : List Clause) (law₁ : Lawful n cs) (law₂ : Lawful m ds) where
   models : (a : Assignment) → Model (max n m) (joined_listing cs ds) a ↔ ((length a ≡ max n m) × Model n cs (take n a) × Model m ds (take m a))
-  models a = (to, from)
-    where
-      to : Model (max n m) (joined_listing cs ds) a → (length a ≡ max n m) × Model n cs (take n a) × Model m ds (take m a)
-      to x =
-          let w = true_parts a cs ds x.holds in
-          let t = x.total in
-          (t, front_model n cs a law₁ (omega arith) w.0, front_model m ds a law₂ (omega arith) w.1)
-
-      from : (length a ≡ max n m) × Model n cs (take n a) × Model m ds (take m a) → Model (max n m) (joined_listing cs ds) a
-      from x =
-          record {
-            total = x.0;
-            holds = true_append a cs ds
-                (sym (true_front a n cs law₁.clauses_proper) ∙ x.1.holds)
-                (sym (true_front a m ds law₂.clauses_proper) ∙ x.2.holds);
-          }
+  models a =
+      let b = model_append (max n m) cs ds a in (
+        λ x.
+            let t = x.total in
+            (t, front_model n cs a law₁ (omega arith) (b.0 x).0.holds, front_model m ds a law₂ (omega arith) (b.0 x).1),
+        λ x.
+            b.1 (
+              record { total = x.0; holds = sym (true_front a n cs law₁.clauses_proper) ∙ x.1.holds },
+              sym (true_front a m ds law₂.clauses_proper) ∙ x.2.holds,
+            ),
+      )
 
   lawful : Lawful (max n m) (joined_listing cs ds) ↔ (length cs + length ds ≤ 65535)
-  lawful = (to, from)
-    where
-      to : Lawful (max n m) (joined_listing cs ds) → length cs + length ds ≤ 65535
-      to w = let e = length-append cs ds in let few = w.few_clauses in omega arith
-
-      from : length cs + length ds ≤ 65535 → Lawful (max n m) (joined_listing cs ds)
-      from few =
-          let e = length-append cs ds in
-          let s = law₁.some_variable in
-          let f = law₁.few_variables in
-          let g = law₂.few_variables in
-          record {
-            some_variable = omega arith;
-            few_variables = omega arith;
-            few_clauses = omega arith;
-            clauses_proper = proper_append (max n m) cs ds (all_wider n (max n m) (omega arith) cs law₁.clauses_proper) (all_wider m (max n m) (omega arith) ds law₂.clauses_proper);
-          }
+  lawful =
+      let b = lawful_append (max n m) cs ds in
+      let s = law₁.some_variable in
+      let f = law₁.few_variables in
+      let g = law₂.few_variables in (
+        λ x. (b.0 x).2,
+        λ few.
+            b.1 (
+              record {
+                some_variable = omega arith;
+                few_variables = omega arith;
+                few_clauses = law₁.few_clauses;
+                clauses_proper = all_wider n (max n m) (omega arith) cs law₁.clauses_proper;
+              },
+              all_wider m (max n m) (omega arith) ds law₂.clauses_proper,
+              few,
+            ),
+      )
 
 pub join_means : (n m : ℕ) (cs ds : List Clause) → JoinMeans n m cs ds
 join_means n m cs ds = record { models = models n m cs ds; lawful = lawful n m cs ds }

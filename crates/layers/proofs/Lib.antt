@@ -1,4 +1,3 @@
-pub mod Held
 pub mod Appended
 pub mod Fixing
 pub mod Joining

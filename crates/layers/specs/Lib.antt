@@ -1,4 +1,4 @@
 -- What each layer lists, and what that does to the models.
-pub mod Fixed
 pub mod Joined
+pub mod Fixed
 pub mod Blocked

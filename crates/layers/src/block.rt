@@ -1,33 +1,36 @@
-ghost use Rattle.std.specs.Prelude.{◌≡◌, ◌≤◌, length, take, MatchResult};
+ghost use Rattle.std.specs.Prelude.{◌≡◌, ◌≤◌, [], ◌∷◌, length, MatchResult};
 ghost use Rattle.cnf.specs.Formula.{block_clause};
-ghost use Rattle.cnf.specs.Told.{literal_at};
 ghost use Rattle.cnf.specs.Checks.{assignment_of};
-ghost use Rattle.layers.specs.Blocked.{blocked_listing, Blocked, NotBlocked, BlockMeans};
+ghost use Rattle.layers.specs.Blocked.{blocked_listing, source_below, blocked_assignment, Blocked, NotBlocked, BlockMeans};
 
+use crate::join::Join;
 use crate::unmade::Unmade;
-use cnf::{ClauseId, LAST_CLAUSE, Literal, MANY_CLAUSES, Source, check_form};
+use arrayvec::ArrayVec;
+use cnf::{ClauseId, Literal, Source, check_form};
 
 /// The most variables of an assignment that is blocked.
 const MOST: usize = 1024;
 
-/// The clauses of a source, and after them one more, which is false under one assignment alone. The first `count` values
-/// of the array are the assignment, and what lies behind them means nothing.
+// The values of an assignment, as one clause that is false under it alone, over no variables.
 #[derive(Drop)]
-pub struct Block<S> {
-    below: S,
-    values: [bool; MOST],
-    count: usize,
+struct Denial {
+    values: ArrayVec<bool, MOST>,
 }
 
-// The values that the bytes of a claim give, in an array, from its start.
-fn values_of(claim: &[u8]) -> [bool; MOST]
+/// The clauses of a source, and after them one more, which is false under one assignment alone.
+#[derive(Drop)]
+pub struct Block<S> {
+    joined: Join<S, Denial>,
+}
+
+// The values that the bytes of a claim give.
+fn values_of(claim: &[u8]) -> ArrayVec<bool, MOST>
     requires { length claim.now ≤ 1024 }
-    ensures whole { length result ≡ 1024 }
-    ensures same { take (length claim.now) result ≡ assignment_of claim.now }
+    ensures { result.items ≡ assignment_of claim.now }
 {
-    let mut values = [false; MOST];
-    for (i, b) in claim.iter().enumerate() {
-        values[i] = *b == 1;
+    let mut values = ArrayVec::new();
+    for b in claim {
+        values.push(*b == 1);
     }
     values
 }
@@ -39,94 +42,77 @@ impl<S: Source> Block<S> {
         ensures models { BlockMeans (S.vars below) (S.listing below) (assignment_of claim.now) }
     {
         match check_form(&below, claim) {
-            Ok(()) => Ok(Block {
-                below,
-                values: values_of(claim),
-                count: claim.len(),
-            }),
+            Ok(()) => {
+                let values = values_of(claim);
+                Ok(Block {
+                    joined: Join::new(below, Denial { values }),
+                })
+            }
             Err(fault) => Err(Unmade { below, fault }),
         }
     }
 
     /// The source below.
     pub fn into_below(self) -> S
-        ensures { result ≡ self.below }
+        ensures { result ≡ source_below self }
     {
-        self.below
-    }
-
-    // The blocked assignment.
-    fn held(&self) -> &[bool]
-        ensures items { result.now ≡ take self.now.count self.now.values }
-        ensures few { length result.now ≤ 1024 }
-    {
-        let all: &[bool] = &self.values;
-        &all[0..self.count.min(all.len())]
-    }
-
-    // Literal j of the block clause, counted from 1; 0 where there is none.
-    fn denial(&self, j: u32) -> Literal
-        ensures { result.0 ≡ literal_at j (block_clause (take self.now.count self.now.values)) }
-    {
-        if j == 0 {
-            return Literal(0);
-        }
-        let held = self.held();
-        if j as usize > held.len() {
-            return Literal(0);
-        }
-        // the literal of variable j that is false where j has its value
-        let v = j as i32;
-        if held[j as usize - 1] {
-            Literal(-v)
-        } else {
-            Literal(v)
-        }
+        self.joined.into_parts().0
     }
 }
 
-impl<S: Source> Source for Block<S> {
-    ghost vars = { λ s. S.Source.vars s.below };
+#[tactic(auto, using(crate::proofs::Blocking::denials))]
+impl Source for Denial {
+    ghost vars = { λ _. 0 };
 
-    ghost listing = { λ s. blocked_listing (S.Source.listing s.below) (take s.count s.values) };
+    ghost listing = { λ s. block_clause s.values.items ∷ [] };
 
     fn variables(&self) -> u32 {
-        self.below.variables()
+        0
     }
 
     fn clauses(&self) -> u32 {
-        // where the number below is capped, the sum is past the cap too
-        (self.below.clauses() + 1).min(MANY_CLAUSES)
+        1
     }
 
     fn length(&self, k: ClauseId) -> u32 {
-        let m = self.below.clauses();
-        // up to m it is a clause below; where m is capped, so is every clause that is told
-        if k.0 <= m {
-            return self.below.length(k);
-        }
-        if k.0 > LAST_CLAUSE {
-            return 0;
-        }
-        // here m is the whole number below, and the block clause comes next
-        if k.0 == m + 1 {
-            self.held().len() as u32
+        if k.0 == 1 {
+            self.values.len() as u32
         } else {
             0
         }
     }
 
     fn literal(&self, k: ClauseId, j: u32) -> Literal {
-        let m = self.below.clauses();
-        if k.0 <= m {
-            return self.below.literal(k, j);
-        }
-        if k.0 > LAST_CLAUSE {
+        if k.0 != 1 || j == 0 {
             return Literal(0);
         }
-        if k.0 != m + 1 {
-            return Literal(0);
+        // the literal of variable j that is false where j has its value
+        match self.values.get(j as usize - 1) {
+            Some(true) => Literal(-(j as i32)),
+            Some(false) => Literal(j as i32),
+            None => Literal(0),
         }
-        self.denial(j)
+    }
+}
+
+impl<S: Source> Source for Block<S> {
+    ghost vars = { λ s. S.Source.vars (source_below s) };
+
+    ghost listing = { λ s. blocked_listing (S.Source.listing (source_below s)) (blocked_assignment s) };
+
+    fn variables(&self) -> u32 {
+        self.joined.variables()
+    }
+
+    fn clauses(&self) -> u32 {
+        self.joined.clauses()
+    }
+
+    fn length(&self, k: ClauseId) -> u32 {
+        self.joined.length(k)
+    }
+
+    fn literal(&self, k: ClauseId, j: u32) -> Literal {
+        self.joined.literal(k, j)
     }
 }

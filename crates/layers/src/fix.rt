@@ -1,31 +1,26 @@
-ghost use Rattle.std.specs.Prelude.{◌≡◌, ◌≤◌, length, take, MatchResult};
+ghost use Rattle.std.specs.Prelude.{◌≡◌, MatchResult};
 ghost use Rattle.cnf.specs.Tabled.{numbers_of};
-ghost use Rattle.layers.specs.Fixed.{fixed_listing, Fixed, NotFixed, FixMeans};
+ghost use Rattle.layers.specs.Fixed.{units_of, fixed_listing, source_below, fixed_literals, Fixed, NotFixed, FixMeans};
 
+use crate::join::Join;
 use crate::unmade::Unmade;
-use cnf::{ClauseId, Fault, LAST_CLAUSE, Literal, MANY_CLAUSES, Source};
+use arrayvec::ArrayVec;
+use cnf::{ClauseId, Fault, Literal, Source};
 
 /// The most literals that are fixed.
 const MOST: usize = 128;
 
-/// The clauses of a source, and after them each of up to 128 literals as a clause of its own. The first `count` literals
-/// of the array are fixed, and what lies behind them means nothing.
+// Literals, each a clause of its own, over no variables.
 #[derive(Drop)]
-pub struct Fix<S> {
-    below: S,
-    literals: [Literal; MOST],
-    count: usize,
+struct Units {
+    literals: ArrayVec<Literal, MOST>,
 }
 
-// Literals in an array, from its start.
-fn kept(literals: &[Literal]) -> [Literal; MOST]
-    requires { length literals.now ≤ 128 }
-    ensures whole { length result ≡ 128 }
-    ensures same { take (length literals.now) result ≡ literals.now }
-{
-    let mut held = [Literal(0); MOST];
-    held[0..literals.len()].copy_from_slice(literals);
-    held
+/// The clauses of a source, and after them each of up to 128 literals as a clause of its own.
+// A type of its own beside `Block`, with the same one-line calls: an alias of one generic type would make `Units` public.
+#[derive(Drop)]
+pub struct Fix<S> {
+    joined: Join<S, Units>,
 }
 
 impl<S: Source> Fix<S> {
@@ -34,62 +29,41 @@ impl<S: Source> Fix<S> {
         ensures answer { MatchResult result (Fixed below literals.now) (NotFixed below literals.now) }
         ensures models { FixMeans (S.vars below) (S.listing below) (numbers_of literals.now) }
     {
-        let count = literals.len();
-        if count > MOST {
-            return Err(Unmade {
+        match ArrayVec::try_from(literals) {
+            Ok(literals) => Ok(Fix {
+                joined: Join::new(below, Units { literals }),
+            }),
+            Err(_) => Err(Unmade {
                 below,
                 fault: Fault::FixFull,
-            });
+            }),
         }
-        Ok(Fix {
-            below,
-            literals: kept(literals),
-            count,
-        })
     }
 
     /// The source below.
     pub fn into_below(self) -> S
-        ensures { result ≡ self.below }
+        ensures { result ≡ source_below self }
     {
-        self.below
-    }
-
-    // The fixed literals.
-    fn held(&self) -> &[Literal]
-        ensures items { result.now ≡ take self.now.count self.now.literals }
-        ensures few { length result.now ≤ 128 }
-    {
-        let all: &[Literal] = &self.literals;
-        &all[0..self.count.min(all.len())]
+        self.joined.into_parts().0
     }
 }
 
-impl<S: Source> Source for Fix<S> {
-    ghost vars = { λ s. S.Source.vars s.below };
+#[tactic(auto, using(crate::proofs::Fixing::units))]
+impl Source for Units {
+    ghost vars = { λ _. 0 };
 
-    ghost listing = { λ s. fixed_listing (S.Source.listing s.below) (numbers_of (take s.count s.literals)) };
+    ghost listing = { λ s. units_of (numbers_of s.literals.items) };
 
     fn variables(&self) -> u32 {
-        self.below.variables()
+        0
     }
 
     fn clauses(&self) -> u32 {
-        // where the number below is capped, the sum is past the cap too
-        (self.below.clauses() + self.held().len() as u32).min(MANY_CLAUSES)
+        self.literals.len() as u32
     }
 
     fn length(&self, k: ClauseId) -> u32 {
-        let m = self.below.clauses();
-        // up to m it is a clause below; where m is capped, so is every clause that is told
-        if k.0 <= m {
-            return self.below.length(k);
-        }
-        if k.0 > LAST_CLAUSE {
-            return 0;
-        }
-        // here m is the whole number below
-        if ((k.0 - m - 1) as usize) < self.held().len() {
+        if 1 <= k.0 && k.0 as usize <= self.literals.len() {
             1
         } else {
             0
@@ -97,19 +71,35 @@ impl<S: Source> Source for Fix<S> {
     }
 
     fn literal(&self, k: ClauseId, j: u32) -> Literal {
-        let m = self.below.clauses();
-        if k.0 <= m {
-            return self.below.literal(k, j);
-        }
-        if k.0 > LAST_CLAUSE {
+        if k.0 == 0 {
             return Literal(0);
         }
-        let i = (k.0 - m - 1) as usize;
-        let held = self.held();
-        if i >= held.len() {
-            return Literal(0);
+        // the clause of each literal has this one literal
+        match self.literals.get(k.0 as usize - 1) {
+            Some(literal) if j == 1 => *literal,
+            _ => Literal(0),
         }
-        // the clause of literal i has this one literal
-        if j == 1 { held[i] } else { Literal(0) }
+    }
+}
+
+impl<S: Source> Source for Fix<S> {
+    ghost vars = { λ s. S.Source.vars (source_below s) };
+
+    ghost listing = { λ s. fixed_listing (S.Source.listing (source_below s)) (numbers_of (fixed_literals s)) };
+
+    fn variables(&self) -> u32 {
+        self.joined.variables()
+    }
+
+    fn clauses(&self) -> u32 {
+        self.joined.clauses()
+    }
+
+    fn length(&self, k: ClauseId) -> u32 {
+        self.joined.length(k)
+    }
+
+    fn literal(&self, k: ClauseId, j: u32) -> Literal {
+        self.joined.literal(k, j)
     }
 }

@@ -27,6 +27,7 @@ impl<P: Source, Q: Source> Join<P, Q> {
     }
 }
 
+#[tactic(auto, using(crate::proofs::Appended::appended))]
 impl<P: Source, Q: Source> Source for Join<P, Q> {
     ghost vars = { λ s. max (P.Source.vars s.first) (Q.Source.vars s.second) };
 
@@ -42,6 +43,7 @@ impl<P: Source, Q: Source> Source for Join<P, Q> {
         (self.first.clauses() + self.second.clauses()).min(MANY_CLAUSES)
     }
 
+    // Which source has clause k is asked in both questions: as a value it would be matched again in each.
     fn length(&self, k: ClauseId) -> u32 {
         let m = self.first.clauses();
         // up to m it is a clause of the first; where m is capped, so is every clause that is told

@@ -1,63 +1,68 @@
--- Copying a clause off its chain: one turn, and what is written at the end.
-use Rattle.std.proofs.Common.{◌≡◌, ℕ, ◌+◌, ◌*◌, ◌/◌, ◌%◌, ◌<◌, ◌≤◌, min, List, ◌++◌, length, get_or, take, drop, set, pos, sym, ap, ◌∙◌, ⊎_elim, arith}
+-- Copying a clause off its chain: what one page adds.
+use Rattle.std.proofs.Common.{◌≡◌, ℕ, ◌+◌, ◌*◌, ◌/◌, ◌%◌, ◌<◌, ◌≤◌, List, ◌++◌, length, get_or, take, drop, pos, sym, ap, ◌∙◌, append_assoc, arith}
 use lib.Seq.{paste}
-use Rattle.std.proofs.lemmas.List.{map-set, take_all, drop_all}
-use Rattle.std.proofs.lemmas.List.Edits.{paste_more}
-use Rattle.std.proofs.lemmas.Bool.{cases_lt}
+use borrow.Rule.Slice.PartMut.{put_mid}
+use Rattle.std.proofs.Math.Seq.{take-add}
+use Rattle.std.proofs.lemmas.List.{length-take-le, length-drop, get_or-take, get_or-drop, take_at, drop_at, drop-drop, take-map, drop-map, map-append, ext_get_or}
 use Rattle.cnf.specs.declared.literal.Literal.{Literal}
 use Rattle.cnf.specs.Formula.{Clause}
-use Rattle.cnf.specs.Tabled.{numbers_of}
+use Rattle.cnf.specs.Tabled.{numbers_of, length_numbers, no_literal, number_at}
 use Rattle.pages.specs.declared.page.Page.{Page}
-use Rattle.pages.specs.declared.paged.Entry.{Entry}
-use Rattle.pages.specs.Chained.{no_literal, no_page, page_next, page_chain, page_after, times_in, entry_clause}
-use Rattle.pages.specs.Chains.{after_more}
-use Rattle.pages.specs.Fills.{turn_below}
+use Rattle.pages.specs.declared.entry.Entry.{Entry}
+use Rattle.pages.specs.Chained.{no_page, page_after, entry_clause}
 use Rattle.pages.specs.Numbers.{FullOn, clause_length, clause_at_place}
 
--- the page of a turn is a page
-pub page_below : (ps : List Page) (e : Entry) (j p l n : ℕ) → p ≡ page_after ps (j / 8) e.head → j < n → n ≡ min l e.size → e.size ≤ 8 * e.pages → ((k : ℕ) → 1024 ≤ k → times_in k (page_chain ps e.pages e.head) ≡ 0) → p < 1024
-page_below ps e j p l n is lt few fits inside = turn_below ps (j / 8) e.pages e.head p 1024 is (omega arith) inside
+module _ (ps : List Page) (e : Entry) (full : FullOn ps e.pages e.head) (i m : ℕ) (lt : i < e.pages) (le : i * 8 + m ≤ e.size) (eight : m ≤ 8) where
+  abbrev c : Clause
+  c = entry_clause ps e
 
--- the page of the next literal: the next one after a page's last literal, else the same
-pub page_goes : (ps : List Page) (j h p p' : ℕ) → p ≡ page_after ps (j / 8) h → j % 8 ≡ 7 → p' ≡ page_next ps p → p' ≡ page_after ps ((j + 1) / 8) h
-page_goes ps j h p p' is end next =
-    let d : j / 8 + 1 ≡ (j + 1) / 8 = omega arith in
-    next ∙ ap (page_next ps) is ∙ sym (after_more ps (j / 8) h) ∙ ap (λ m. page_after ps m h) d
+  abbrev ls : List Literal
+  ls = (get_or ps (page_after ps i e.head) no_page).literals
 
-pub page_stays : (ps : List Page) (j h p p' : ℕ) → p ≡ page_after ps (j / 8) h → (j % 8 ≡ 7 → ⊥) → p' ≡ p → p' ≡ page_after ps ((j + 1) / 8) h
-page_stays ps j h p p' is end same =
-    let d : j / 8 ≡ (j + 1) / 8 = omega arith in
-    same ∙ is ∙ ap (λ m. page_after ps m h) d
+  -- page i of the chain begins with the clause's literals from 8 * i on
+  page_part : numbers_of (take m ls) ≡ take m (drop (i * 8) c)
+  page_part =
+      let n = clause_length ps e full in
+      let whole = full i lt in
+      let a = length_numbers (take m ls) ∙ length-take-le m ls (omega arith) in
+      let r = length-drop (i * 8) c in
+      let b = length-take-le m (drop (i * 8) c) (omega arith) in
+      ext_get_or (pos 0) (numbers_of (take m ls)) (take m (drop (i * 8) c)) (omega arith) (λ q l.
+      let w : q < m = omega arith in
+      let d : (i * 8 + q) / 8 ≡ i = omega arith in
+      let s : (i * 8 + q) % 8 ≡ q = omega arith in
+      number_at (take m ls) q
+      ∙ ap (λ (x : Literal). x.0) (get_or-take m ls q no_literal w)
+      ∙ sym
+      (get_or-take m (drop (i * 8) c) q (pos 0) w
+      ∙ get_or-drop (i * 8) c q (pos 0)
+      ∙ clause_at_place ps e full (i * 8 + q) (omega arith)
+      ∙ ap (λ k. (get_or (get_or ps (page_after ps k e.head) no_page).literals ((i * 8 + q) % 8) no_literal).0) d
+      ∙ ap (λ k. (get_or ls k no_literal).0) s))
 
--- one literal more is written
-pub copied_more : (ps : List Page) (e : Entry) → FullOn ps e.pages e.head → e.size ≤ 8 * e.pages → (into was : List Literal) (j p : ℕ) → j < e.size → j < length (numbers_of was) → p ≡ page_after ps (j / 8) e.head
-    → numbers_of into ≡ paste (numbers_of was) 0 (entry_clause ps e) j
-    → numbers_of (set into j (get_or (get_or ps p no_page).literals (j % 8) no_literal)) ≡ paste (numbers_of was) 0 (entry_clause ps e) (j + 1)
-copied_more ps e full fits into was j p l r is done =
-    let c = entry_clause ps e in
-    let d = numbers_of was in
-    let v = get_or (get_or ps p no_page).literals (j % 8) no_literal in
-    let n = clause_length ps e full fits in
-    let z : 0 + j ≡ j = omega arith in
-    map-set (λ (x : Literal). x.0) into j v
-    ∙ ap (λ xs. set xs j v.0) done
-    ∙ ap (λ k. set (paste d 0 c j) j (get_or (get_or ps k no_page).literals (j % 8) no_literal).0) is
-    ∙ ap (λ y. set (paste d 0 c j) j y) (sym (clause_at_place ps e full fits j l))
-    ∙ ap (λ m. set (paste d 0 c j) m (get_or c j (pos 0))) (sym z)
-    ∙ paste_more d 0 c j (pos 0) (omega arith) (omega arith)
-
--- as many as fit are written
-pub copied_all : (d c : Clause) (n : ℕ) → n ≡ min (length d) (length c) → paste d 0 c n ≡ take (length d) c ++ drop (length c) d
-copied_all d c n is =
-    let z : 0 + n ≡ n = omega arith in
-    ap (λ m. take n c ++ drop m d) z
-    ∙ ⊎_elim
-    (λ (l : length d < length c).
-    let e : n ≡ length d = omega arith in
-    ap (λ m. take m c ++ drop m d) e
-    ∙ ap (λ xs. take (length d) c ++ xs) (drop_all (length d) d (omega arith) ∙ sym (drop_all (length c) d (omega arith))))
-    (λ (l : length c ≤ length d).
-    let e : n ≡ length c = omega arith in
-    ap (λ m. take m c ++ drop m d) e
-    ∙ ap (λ xs. xs ++ drop (length c) d) (take_all (length c) c (omega arith) ∙ sym (take_all (length d) c l)))
-    (cases_lt (length d) (length c))
+  -- after that page so many literals more are written
+  pub copied_more : (into was part : List Literal) (p n n' : ℕ) → p ≡ page_after ps i e.head → i * 8 ≤ length was → n ≡ i * 8 → n' ≡ i * 8 + m → part ≡ take m (get_or ps p no_page).literals
+      → numbers_of into ≡ paste (numbers_of was) 0 c n → numbers_of (put_mid (i * 8) m into part) ≡ paste (numbers_of was) 0 c n'
+  copied_more into was part p n n' at r is is' part_is done =
+      let f = λ (x : Literal). x.0 in
+      let a = i * 8 in
+      let d = numbers_of was in
+      let xs = numbers_of into in
+      let len = clause_length ps e full in
+      let front = length-take-le a c (omega arith) in
+      let z : 0 + n ≡ a = omega arith in
+      let z' : 0 + n' ≡ a + m = omega arith in
+      let now : xs ≡ take a c ++ drop a d = done ∙ ap (λ k. take k c ++ drop (0 + n) d) is ∙ ap (λ k. take a c ++ drop k d) z in
+      let part_now : numbers_of part ≡ take m (drop a c) = ap numbers_of part_is ∙ ap (λ k. numbers_of (take m (get_or ps k no_page).literals)) at ∙ page_part in
+      map-append f (take a into) (part ++ drop m (drop a into))
+      ∙ ap (λ t. numbers_of (take a into) ++ t) (map-append f part (drop m (drop a into)))
+      ∙ ap (λ t. t ++ (numbers_of part ++ numbers_of (drop m (drop a into)))) (sym (take-map f a into))
+      ∙ ap (λ t. take a xs ++ (numbers_of part ++ t)) (sym (drop-map f m (drop a into)) ∙ ap (drop m) (sym (drop-map f a into)))
+      ∙ ap (λ t. take a xs ++ (t ++ drop m (drop a xs))) part_now
+      ∙ ap (λ t. take a t ++ (take m (drop a c) ++ drop m (drop a t))) now
+      ∙ ap (λ t. t ++ (take m (drop a c) ++ drop m (drop a (take a c ++ drop a d)))) (take_at (take a c) (drop a d) a front)
+      ∙ ap (λ t. take a c ++ (take m (drop a c) ++ drop m t)) (drop_at (take a c) (drop a d) a front)
+      ∙ ap (λ t. take a c ++ (take m (drop a c) ++ t)) (drop-drop m a d)
+      ∙ sym (append_assoc (take a c) (take m (drop a c)) (drop (a + m) d))
+      ∙ ap (λ t. t ++ drop (a + m) d) (sym (take-add a m c))
+      ∙ sym (ap (λ k. take k c ++ drop (0 + n') d) is' ∙ ap (λ k. take (a + m) c ++ drop k d) z')

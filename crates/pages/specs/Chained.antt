@@ -1,20 +1,16 @@
 -- Pages in chains, the entries that own chains, and the table of clauses that these mean.
-use Rattle.std.specs.Prelude.{◌≡◌, ℕ, zero, suc, ◌+◌, ◌<◌, ◌≤◌, max, List, [], ◌∷◌, map, length, take, pos, sum_by, count_by, nat_eq, slice_index_or}
+use Rattle.std.specs.Prelude.{◌≡◌, ℕ, zero, suc, ◌+◌, ◌<◌, ◌≤◌, List, [], ◌∷◌, map, length, take, sum_by, count_by, nat_eq, slice_index_or, refl}
+use Rattle.std.proofs.Common.{lit≤}
 use Rattle.std.specs.List.{flat_map}
-use Rattle.cnf.specs.declared.literal.Literal.{Literal}
 use Rattle.cnf.specs.Formula.{Clause}
 use Rattle.cnf.specs.Tabled.{numbers_of}
-use Rattle.store.specs.Tables.{Kind, Table, ceil_div}
+use Rattle.store.specs.Tables.{Kind, Table}
 use Rattle.pages.specs.declared.page.Page.{Page}
-use Rattle.pages.specs.declared.paged.Entry.{Entry}
+use Rattle.pages.specs.declared.entry.Entry.{Entry}
 
 -- eight literals to a page, 1,024 pages, and no clause longer than 1,024
 abbrev pub paged_kind : Kind
 paged_kind = record { unit_size = 8; units = 1024; longest = 1024 }
-
--- what is read past the end of literals
-abbrev pub no_literal : Literal
-no_literal = record { 0 = pos 0 }
 
 -- what is read past the end of the pages
 abbrev pub no_page : Page
@@ -22,7 +18,7 @@ no_page = record { next = 0; literals = [] }
 
 -- what is read past the end of the directory
 abbrev pub no_entry : Entry
-no_entry = record { id = 0; head = 0; pages = 0; size = 0 }
+no_entry = record { id = 0; head = 0; pages = 1; size = 0; fitting = refl; short = lit≤ tt }
 
 -- the page that follows page h
 abbrev pub page_next : List Page → ℕ → ℕ
@@ -70,10 +66,6 @@ entry_clause ps e = take e.size (chain_numbers ps e.pages e.head)
 abbrev pub table_of : List Page → List Entry → Table
 table_of ps es = map (λ e. (e.id, entry_clause ps e)) es
 
--- the pages that n literals take: at least one
-abbrev pub pages_for : ℕ → ℕ
-pages_for n = max 1 (ceil_div n 8)
-
 -- every page below a number has eight literals
 abbrev pub FullPages : List Page → ℕ → Type 0
 FullPages ps top = (k : ℕ) → k < top → length (slice_index_or ps k no_page).literals ≡ 8
@@ -85,14 +77,6 @@ id_at es k = (slice_index_or es k no_entry).id
 -- the ids of a directory rise
 abbrev pub RisingIds : List Entry → Type 0
 RisingIds es = (i j : ℕ) → i < j → j < length es → id_at es i < id_at es j
-
--- each entry has the pages that its literals take
-abbrev pub FittingPages : List Entry → Type 0
-FittingPages es = (k : ℕ) → k < length es → (slice_index_or es k no_entry).pages ≡ pages_for (slice_index_or es k no_entry).size
-
--- no entry has more literals than the longest clause
-abbrev pub ShortSizes : List Entry → Type 0
-ShortSizes es = (k : ℕ) → k < length es → (slice_index_or es k no_entry).size ≤ 1024
 
 -- pages that each have the next one as successor, up to a number
 abbrev pub LinkedLine : List Page → ℕ → Type 0

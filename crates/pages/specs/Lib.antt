@@ -1,4 +1,5 @@
 -- What the paged store holds, and what it means; then the lemmas that lead to its laws.
+pub mod Sizes
 pub mod Chained
 pub mod Meant
 pub mod Places

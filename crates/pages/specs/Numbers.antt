@@ -1,14 +1,14 @@
 -- The numbers on a chain of full pages, by their places.
-use Rattle.std.specs.Prelude.{◌≡◌, ℕ, zero, suc, ◌-◌, ◌*◌, ◌/◌, ◌%◌, ◌<◌, ◌≤◌, List, [], ◌∷◌, length, get_or, take, pos, Some, slice_index_or, refl}
+use Rattle.std.specs.Prelude.{◌≡◌, ℕ, zero, suc, ◌-◌, ◌*◌, ◌/◌, ◌%◌, ◌<◌, ◌≤◌, List, length, get_or, take, pos, Some, slice_index_or, refl}
 use Rattle.std.proofs.Common.{sym, ap, ◌∙◌, ⊎_elim, arith}
-use Rattle.std.proofs.lemmas.List.{length-map, length-append, length-take-le, get_or_append_left, get_or-append_right, get_or-take, get_or_past, ext_get_or}
+use Rattle.std.proofs.lemmas.List.{length-append, length-take-le, get_or_append_left, get_or-append_right, get_or-take, ext_get_or}
 use Rattle.std.proofs.lemmas.Bool.{cases_lt, ne_eqb, cond-false}
 use Rattle.cnf.specs.declared.literal.Literal.{Literal}
-use Rattle.cnf.specs.Tabled.{numbers_of}
+use Rattle.cnf.specs.Tabled.{numbers_of, length_numbers, no_literal, number_at}
 use Rattle.store.specs.Tables.{literal_in}
 use Rattle.pages.specs.declared.page.Page.{Page}
-use Rattle.pages.specs.declared.paged.Entry.{Entry}
-use Rattle.pages.specs.Chained.{no_literal, no_page, page_next, page_chain, page_after, times_in, chain_numbers, page_numbers, entry_clause, pages_for, FullPages}
+use Rattle.pages.specs.declared.entry.Entry.{Entry}
+use Rattle.pages.specs.Chained.{no_page, page_next, page_chain, page_after, times_in, chain_numbers, page_numbers, entry_clause, FullPages}
 use Rattle.pages.specs.Chains.{SameLinks, after_links, after_below}
 
 -- each page of a chain has eight literals
@@ -17,14 +17,6 @@ FullOn ps n h = (i : ℕ) → i < n → length (get_or ps (page_after ps i h) no
 
 pub full_on : (ps : List Page) (n h top : ℕ) → FullPages ps top → ((k : ℕ) → top ≤ k → times_in k (page_chain ps n h) ≡ 0) → FullOn ps n h
 full_on ps n h top full none i l = full (page_after ps i h) (after_below ps i n h top l none)
-
-pub length_numbers : (ls : List Literal) → length (numbers_of ls) ≡ length ls
-length_numbers ls = length-map ls (λ (l : Literal). l.0)
-
-pub number_at : (ls : List Literal) (q : ℕ) → slice_index_or (numbers_of ls) q (pos 0) ≡ (get_or ls q no_literal).0
-number_at [] q = refl
-number_at (l ∷ ls) zero = refl
-number_at (l ∷ ls) (suc q) = number_at ls q
 
 -- the chain without its first page
 full_rest : (ps : List Page) (n h : ℕ) → FullOn ps (suc n) h → FullOn ps n (page_next ps h)
@@ -60,29 +52,20 @@ text_at ps (suc n) h q f l =
     ⊎_elim here later (cases_lt q 8)
 
 -- the literals of an entry
-module _ (ps : List Page) (e : Entry) (full : FullOn ps e.pages e.head) (fits : e.size ≤ 8 * e.pages) where
+module _ (ps : List Page) (e : Entry) (full : FullOn ps e.pages e.head) where
+  fits : e.size ≤ 8 * e.pages
+  fits = omega (arith, e.fitting)
+
   pub clause_length : length (entry_clause ps e) ≡ e.size
-  clause_length = length-take-le e.size (chain_numbers ps e.pages e.head) (let t = text_length ps e.pages e.head full in omega arith)
+  clause_length = length-take-le e.size (chain_numbers ps e.pages e.head) (let t = text_length ps e.pages e.head full in omega (arith, fits))
 
   pub clause_at_place : (q : ℕ) → q < e.size → slice_index_or (entry_clause ps e) q (pos 0) ≡ (get_or (get_or ps (page_after ps (q / 8) e.head) no_page).literals (q % 8) no_literal).0
   clause_at_place q l =
-      get_or-take e.size (chain_numbers ps e.pages e.head) q (pos 0) l ∙ text_at ps e.pages e.head q full (omega arith)
-
-  pub literal_in_none : (j : ℕ) → e.size < j → literal_in j (Some (entry_clause ps e)) ≡ pos 0
-  literal_in_none j l =
-      let t = clause_length in
-      cond-false _ _ _ (ne_eqb j 0 (λ z. omega arith)) ∙ get_or_past (entry_clause ps e) (j - 1) (pos 0) (omega arith)
+      get_or-take e.size (chain_numbers ps e.pages e.head) q (pos 0) l ∙ text_at ps e.pages e.head q full (omega (arith, fits))
 
   pub literal_in_some : (j : ℕ) → 0 < j → j ≤ e.size → literal_in j (Some (entry_clause ps e)) ≡ (get_or (get_or ps (page_after ps ((j - 1) / 8) e.head) no_page).literals ((j - 1) % 8) no_literal).0
   literal_in_some j p l =
       cond-false _ _ _ (ne_eqb j 0 (λ z. omega arith)) ∙ clause_at_place (j - 1) (omega arith)
-
--- n literals have room on the pages that they take
-pub fits_pages : (n : ℕ) → n ≤ 8 * pages_for n
-fits_pages n = omega arith
-
-pub pages_some : (n : ℕ) → 1 ≤ pages_for n
-pages_some n = omega arith
 
 -- what is written to a chain by places is the clause
 pub written : (ps qs : List Page) (n h : ℕ) (ls : List Literal) → SameLinks ps qs → FullOn qs n h → length ls ≤ 8 * n

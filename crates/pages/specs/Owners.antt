@@ -6,11 +6,12 @@ use Rattle.std.proofs.lemmas.List.{get_or-set_same, get_or-set_other, drop_more}
 use Rattle.std.proofs.lemmas.List.Sums.{sum_by-cons, sum_by-append, sum_by-take-drop, get_or-le-sum_by}
 use Rattle.std.proofs.lemmas.Bool.{cases_lt}
 use Rattle.cnf.specs.Tabled.{numbers_of}
+use Rattle.store.specs.Tables.{free_units}
 use Rattle.pages.specs.declared.page.Page.{Page}
-use Rattle.pages.specs.declared.paged.Entry.{Entry}
-use Rattle.pages.specs.Chained.{no_page, no_entry, page_next, page_chain, page_after, times_in, held_count, owner_count, page_total, page_numbers, chain_numbers, entry_clause, table_of, FullPages, FittingPages}
-use Rattle.pages.specs.Numbers.{full_on, fits_pages, clause_length}
-use Rattle.pages.specs.Places.{TrueSizes}
+use Rattle.pages.specs.declared.entry.Entry.{Entry}
+use Rattle.pages.specs.Chained.{paged_kind, no_page, no_entry, page_next, page_chain, page_after, times_in, held_count, owner_count, page_total, page_numbers, chain_numbers, entry_clause, table_of, FullPages}
+use Rattle.pages.specs.Numbers.{full_on, clause_length}
+use Rattle.pages.specs.Places.{TrueSizes, costs_table}
 use Rattle.pages.specs.Fills.{OthersSame}
 use Rattle.pages.specs.Chains.{one_if, one_self, times_cons, times_append, chain_set, after_set, SameLinks, chain_links, chain_append, chain_front, held_cons}
 
@@ -93,11 +94,8 @@ module _ (ps : List Page) (f n : ℕ) (es : List Entry) (at : ℕ) (in' : at < l
   pub entry_le : (k : ℕ) → times_in k (page_chain ps the.pages the.head) ≤ held_count ps k es
   entry_le k = get_or-le-sum_by (λ x. times_in k (page_chain ps x.pages x.head)) es at no_entry in'
 
-  pub entry_inside : (top : ℕ) → ((k : ℕ) → top ≤ k → owner_count ps f n es k ≡ 0) → (k : ℕ) → top ≤ k → times_in k (page_chain ps the.pages the.head) ≡ 0
-  entry_inside top none k l = omega (arith, none k l, entry_le k)
-
-  pub entry_pages : the.pages ≤ page_total es
-  entry_pages = get_or-le-sum_by (λ x. x.pages) es at no_entry in'
+  pub entry_inside : (e : Entry) → e ≡ the → (top : ℕ) → ((k : ℕ) → top ≤ k → owner_count ps f n es k ≡ 0) → (k : ℕ) → top ≤ k → times_in k (page_chain ps e.pages e.head) ≡ 0
+  entry_inside e is top none k l = ap (λ x. times_in k (page_chain ps x.pages x.head)) is ∙ omega (arith, none k l, entry_le k)
 
 -- The first need pages of the free chain become the chain of a new entry at a place.
 module _ (ps qs : List Page) (f n need : ℕ) (es : List Entry) (at : ℕ) (e : Entry)
@@ -198,12 +196,17 @@ module _ (ps : List Page) (f n : ℕ) (es : List Entry) (at : ℕ) (in' : at < l
       omega arith
 
 -- each clause of a directory is as long as its entry says
-pub true_sizes : (ps : List Page) (f n : ℕ) (es : List Entry) (top : ℕ) → ((k : ℕ) → top ≤ k → owner_count ps f n es k ≡ 0) → FullPages ps top → FittingPages es → TrueSizes ps es
-true_sizes ps f n es top none full fit k l =
+pub true_sizes : (ps : List Page) (f n : ℕ) (es : List Entry) (top : ℕ) → ((k : ℕ) → top ≤ k → owner_count ps f n es k ≡ 0) → FullPages ps top → TrueSizes ps es
+true_sizes ps f n es top none full k l =
     let e = get_or es k no_entry in
-    let a = fits_pages e.size in
-    let b = fit k l in
-    clause_length ps e (full_on ps e.pages e.head top full (entry_inside ps f n es k l top none)) (omega arith)
+    clause_length ps e (full_on ps e.pages e.head top full (entry_inside ps f n es k l e refl top none))
+
+-- the free units are the free pages
+pub free_pages : (ps : List Page) (f n : ℕ) (es : List Entry) → n + page_total es ≡ 1024 → ((k : ℕ) → 1024 ≤ k → owner_count ps f n es k ≡ 0) → FullPages ps 1024 → free_units paged_kind (table_of ps es) ≡ n
+unfolding free_units
+free_pages ps f n es all none full =
+    let c = costs_table ps es (true_sizes ps f n es 1024 none full) in
+    omega arith
 
 -- no page has two owners
 pub owners_le : (ps : List Page) (f n : ℕ) (es : List Entry) (top : ℕ) → ((k : ℕ) → k < top → owner_count ps f n es k ≡ 1) → ((k : ℕ) → top ≤ k → owner_count ps f n es k ≡ 0) → (k : ℕ) → owner_count ps f n es k ≤ 1

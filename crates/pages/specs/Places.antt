@@ -1,6 +1,6 @@
 -- Where an id stands in a directory, and what that says of the table; the order and the costs of the table.
 use Rattle.std.specs.Prelude.{◌≡◌, ℕ, zero, suc, ◌+◌, ◌-◌, ◌<◌, ◌≤◌, List, [], ◌∷◌, ◌++◌, length, get_or, take, drop, Some, None, ◌≢◌, slice_index_or, refl}
-use Rattle.std.proofs.Common.{sym, ap, subst, ◌∙◌, ⊎_elim, arith}
+use Rattle.std.proofs.Common.{sym, ap, ◌∙◌, ⊎_elim, arith}
 use Rattle.std.specs.List.{insert as inserted, remove}
 use Rattle.std.proofs.lemmas.List.{length-map, map-append, take-map, drop-map}
 use Rattle.std.proofs.lemmas.List.Edits.{length-insert, get_or-insert_below, get_or-insert_at, get_or-insert_above, length-remove, get_or-remove_below, get_or-remove_above}
@@ -9,9 +9,9 @@ use Rattle.std.proofs.lemmas.Bool.{eq-eqb, ne_eqb, lt-ltb, le-ltb, cases_lt, cas
 use Rattle.cnf.specs.Formula.{Clause}
 use Rattle.store.specs.Tables.{lookup, insert, erase, cost, costs, Ascending}
 use Rattle.pages.specs.declared.page.Page.{Page}
-use Rattle.pages.specs.declared.paged.Entry.{Entry}
-use Rattle.pages.specs.Chained.{paged_kind, no_entry, id_at, entry_clause, table_of, page_total, pages_for, RisingIds, FittingPages, HeldAt, GapAt}
-use Rattle.pages.specs.Numbers.{pages_some}
+use Rattle.pages.specs.declared.entry.Entry.{Entry}
+use Rattle.pages.specs.Chained.{paged_kind, no_entry, id_at, entry_clause, table_of, page_total, RisingIds, HeldAt, GapAt}
+use Rattle.pages.specs.Sizes.{pages_for}
 
 lookup_at : (ps : List Page) (es : List Entry) (i at : ℕ) → at < length es → id_at es at ≡ i → ((k : ℕ) → k < at → id_at es k < i) → lookup i (table_of ps es) ≡ Some (entry_clause ps (slice_index_or es at no_entry))
 unfolding lookup
@@ -76,57 +76,35 @@ ascending_table ps es up = ascending_from ps 0 es (λ k l. omega arith) up
 abbrev pub TrueSizes : List Page → List Entry → Type 0
 TrueSizes ps es = (k : ℕ) → k < length es → length (entry_clause ps (slice_index_or es k no_entry)) ≡ (get_or es k no_entry).size
 
-cost_is : (c : Clause) (n : ℕ) → length c ≡ n → cost paged_kind c ≡ pages_for n
+pub cost_is : (c : Clause) (n : ℕ) → length c ≡ n → cost paged_kind c ≡ pages_for n
 unfolding cost
 cost_is c n e = ap pages_for e
 
 -- the table costs the pages of the directory's chains
-pub costs_table : (ps : List Page) (es : List Entry) → TrueSizes ps es → FittingPages es → costs paged_kind (table_of ps es) ≡ page_total es
+pub costs_table : (ps : List Page) (es : List Entry) → TrueSizes ps es → costs paged_kind (table_of ps es) ≡ page_total es
 unfolding costs
-costs_table ps [] long fit = refl
-costs_table ps (e ∷ es) long fit =
+costs_table ps [] long = refl
+costs_table ps (e ∷ es) long =
     let s = sum_by-cons (λ x. x.pages) e es in
     let a = cost_is (entry_clause ps e) e.size (long 0 (omega arith)) in
-    let f = fit 0 (omega arith) in
-    let r = costs_table ps es (λ k l. long (suc k) (omega arith)) (λ k l. fit (suc k) (omega arith)) in
+    let f = e.fitting in
+    let r = costs_table ps es (λ k l. long (suc k) (omega arith)) in
     omega arith
 
 -- chains beside which so many pages are free cost no more than there are
-pub table_within : (ps : List Page) (free : ℕ) (es : List Entry) → free + page_total es ≡ 1024 → TrueSizes ps es → FittingPages es → costs paged_kind (table_of ps es) ≤ paged_kind.units
-table_within ps free es all long fit = let c = costs_table ps es long fit in omega arith
+pub table_within : (ps : List Page) (free : ℕ) (es : List Entry) → free + page_total es ≡ 1024 → TrueSizes ps es → costs paged_kind (table_of ps es) ≤ paged_kind.units
+table_within ps free es all long = let c = costs_table ps es long in omega arith
 
 -- a directory has no more entries than pages
-pub few_entries : (es : List Entry) → FittingPages es → length es ≤ page_total es
-few_entries [] fit = omega arith
-few_entries (e ∷ es) fit =
+pub few_entries : (es : List Entry) → length es ≤ page_total es
+few_entries [] = omega arith
+few_entries (e ∷ es) =
     let s = sum_by-cons (λ x. x.pages) e es in
-    let f = fit 0 (omega arith) in
-    let p = pages_some e.size in
-    let r = few_entries es (λ k l. fit (suc k) (omega arith)) in
+    let f = e.fitting in
+    let r = few_entries es in
     omega arith
 
--- what an id at a place says of those before and after it
-pub rising_below : (es : List Entry) (m i : ℕ) → m < length es → RisingIds es → id_at es m < i → (k : ℕ) → k < m + 1 → id_at es k < i
-rising_below es m i l up h k w =
-    ⊎_elim (λ (v : k < m). let a = up k m v l in omega arith) (λ (v : m ≤ k). let e = ap (id_at es) (let e : k ≡ m = omega arith in e) in omega arith) (cases_lt k m)
-
-pub rising_above : (es : List Entry) (m i : ℕ) → RisingIds es → i ≤ id_at es m → (k : ℕ) → m ≤ k → k < length es → i ≤ id_at es k
-rising_above es m i up h k w l =
-    ⊎_elim (λ (v : m < k). let a = up m k v l in omega arith) (λ (v : k ≤ m). let e = ap (id_at es) (let e : k ≡ m = omega arith in e) in omega arith) (cases_lt m k)
-
--- the first place whose id is not below an id, and has another id, is the id's gap
-pub gap_from : (es : List Entry) (i at : ℕ) → RisingIds es → at < length es → ((k : ℕ) → k < at → id_at es k < i) → i ≤ id_at es at → (id_at es at ≢ i) → GapAt es i at
-gap_from es i at up l before from ne =
-    record {
-      within = omega arith;
-      before = before;
-      after = λ k w h. let a = rising_above es at (i + 1) up (omega arith) k w h in omega arith;
-    }
-
--- what holds of every entry still does after one is put in or taken out
-abbrev pub Each : (Entry → Type 0) → List Entry → Type 0
-Each P es = (k : ℕ) → k < length es → P (slice_index_or es k no_entry)
-
+-- the ids still rise after an entry is put in or taken out
 module _ (es : List Entry) (at : ℕ) (e : Entry) (le : at ≤ length es) where
   before_is : (k : ℕ) → k < at → slice_index_or (inserted es at e) k no_entry ≡ slice_index_or es k no_entry
   before_is k l = get_or-insert_below es at e no_entry k l le
@@ -138,16 +116,6 @@ module _ (es : List Entry) (at : ℕ) (e : Entry) (le : at ≤ length es) where
   after_is k l =
       let s : k ≡ (k - 1) + 1 = omega arith in
       ap (λ m. get_or (inserted es at e) m no_entry) s ∙ get_or-insert_above es at e no_entry (k - 1) (omega arith) le
-
-  pub each_inserted : (P : Entry → Type 0) → Each P es → P e → Each P (inserted es at e)
-  each_inserted P h p k l =
-      let n = length-insert es at e le in
-      ⊎_elim
-      (λ q. subst P (sym (here_is k q)) p)
-      (⊎_elim
-      (λ w. subst P (sym (before_is k w)) (h k (omega arith)))
-      (λ w. subst P (sym (after_is k w)) (h (k - 1) (omega arith))))
-      (cases_order k at)
 
   pub rising_inserted : GapAt es e.id at → RisingIds es → RisingIds (inserted es at e)
   rising_inserted gap up i j l m =
@@ -187,11 +155,6 @@ module _ (es : List Entry) (at : ℕ) (lt : at < length es) where
 
   kept_after : (k : ℕ) → at ≤ k → slice_index_or (remove es at) k no_entry ≡ slice_index_or es (k + 1) no_entry
   kept_after k l = get_or-remove_above es at no_entry k l lt
-
-  pub each_removed : (P : Entry → Type 0) → Each P es → Each P (remove es at)
-  each_removed P h k l =
-      let n = length-remove es at lt in
-      ⊎_elim (λ w. subst P (sym (kept_before k w)) (h k (omega arith))) (λ w. subst P (sym (kept_after k w)) (h (k + 1) (omega arith))) (cases_lt k at)
 
   pub rising_removed : RisingIds es → RisingIds (remove es at)
   rising_removed up i j l m =

@@ -4,11 +4,13 @@ ghost use Rattle.std.specs.Vec.{vec_ptr};
 ghost use Rattle.cnf.specs.Faults.{accepted};
 ghost use Rattle.cnf.specs.Tabled.{numbers_of};
 ghost use Rattle.store.specs.Tables.{insert, put_answer};
-ghost use Rattle.pages.specs.Chained.{paged_kind, pages_for, GapAt};
+ghost use Rattle.pages.specs.Chained.{paged_kind, GapAt};
+ghost use Rattle.pages.specs.Sizes.{pages_for};
 ghost use Rattle.pages.specs.Meant.{paged_table};
 
+use crate::entry::Entry;
 use crate::page::{PAGES, all_pages, fill, pages_needed, walk};
-use crate::paged::{Entry, PagedStore};
+use crate::paged::PagedStore;
 use cnf::{Fault, Literal};
 use std::alloc::{AllocError, Global};
 
@@ -35,18 +37,16 @@ impl PagedStore {
         ensures answer { MatchResult result (λ _. put_answer paged_kind (paged_table self.now) id (numbers_of literals.now) ≡ accepted) (λ f. put_answer paged_kind (paged_table self.now) id (numbers_of literals.now) ≡ Err f) }
         ensures place { IfOk result (λ at. GapAt self.now.directory.items id at × (length literals.now ≤ 1024) × (pages_for (length literals.now) ≤ self.now.spare)) }
     {
-        match self.find(id) {
-            Ok(_) => Err(Fault::IdHeld),
-            Err(at) => {
-                if literals.len() > LONGEST {
-                    return Err(Fault::TooLong);
-                }
-                if pages_needed(literals.len()) > self.spare {
-                    return Err(Fault::NoRoom);
-                }
-                Ok(at)
-            }
+        let Err(at) = self.find(id) else {
+            return Err(Fault::IdHeld);
+        };
+        if literals.len() > LONGEST {
+            return Err(Fault::TooLong);
         }
+        if pages_needed(literals.len()) > self.spare {
+            return Err(Fault::NoRoom);
+        }
+        Ok(at)
     }
 
     // Takes a clause in at its place: the first free pages, a chain already, become its chain. Nothing is allocated, since the
@@ -60,8 +60,7 @@ impl PagedStore {
     {
         let need = pages_needed(literals.len());
         let head = self.first;
-        let rest = fill(&mut self.pages, head, need, literals);
-        self.first = rest;
+        self.first = fill(&mut self.pages, head, need, literals);
         self.spare -= need;
         let entry = Entry {
             id,
@@ -77,13 +76,10 @@ impl PagedStore {
         requires { at < length self.old.directory.items }
         ensures { paged_table self.new ≡ remove (paged_table self.old) at }
     {
-        let e = self.entry(at);
+        let e = self.directory.remove(at);
         let last = walk(&self.pages, e.head, e.pages - 1);
-        let mut page = self.pages[last as usize];
-        page.next = self.first;
-        self.pages[last as usize] = page;
+        self.pages[last as usize].next = self.first;
         self.first = e.head;
         self.spare += e.pages;
-        self.directory.remove(at);
     }
 }

@@ -1,45 +1,27 @@
-ghost use Rattle.std.specs.Prelude.{◌≡◌, ◌<◌, length, Some};
-ghost use Rattle.cnf.specs.Tabled.{numbers_of};
-ghost use Rattle.store.specs.Tables.{literal_in, read_over};
-ghost use Rattle.pages.specs.Meant.{clause_held};
+ghost use Rattle.std.specs.Prelude.{◌≡◌, ℕ, ◌≤◌, length, Some, None, MatchResult, MatchOption, IfSome};
+ghost use Rattle.store.specs.Tables.{lookup};
+ghost use Rattle.pages.specs.Chained.{page_chain, times_in, entry_clause, HeldAt, GapAt};
+ghost use Rattle.pages.specs.Meant.{paged_table, clause_held};
 
-use crate::page::{EACH, walk};
+use crate::entry::Entry;
 use crate::paged::PagedStore;
-use cnf::Literal;
 
 impl PagedStore {
-    // Literal j of the clause at a place, counted from 1.
-    pub(super) fn nth(&self, at: usize, j: u32) -> Literal
-        requires { at < length self.now.directory.items }
-        ensures { result.0 ≡ literal_in j (Some (clause_held self.now at)) }
+    // Where an id stands in the directory, or else where it would.
+    pub(super) fn find(&self, id: u32) -> Result<usize, usize>
+        ensures place { MatchResult result (λ at. HeldAt self.now.directory.items id at) (λ at. GapAt self.now.directory.items id at) }
+        ensures clause { MatchResult result (λ at. lookup id (paged_table self.now) ≡ Some (clause_held self.now at)) (λ _. lookup id (paged_table self.now) ≡ None) }
     {
-        let e = self.entry(at);
-        if j == 0 {
-            return Literal(0);
-        }
-        if j > e.size as u32 {
-            return Literal(0);
-        }
-        let q = j as usize - 1;
-        let p = walk(&self.pages, e.head, (q / EACH) as u16);
-        self.pages[p as usize].literals[q % EACH]
+        self.directory.binary_search_by_key(&id, |e| e.id)
     }
 
-    // Writes the literals of the clause at a place to the beginning of a slice, as many as fit, and gives the clause's length.
-    pub(super) fn copy_out(&self, at: usize, into: &mut [Literal]) -> u32
-        requires { at < length self.now.directory.items }
-        ensures answer { result ≡ length (clause_held self.now at) }
-        ensures written { numbers_of into.new ≡ read_over (Some (clause_held self.now at)) (numbers_of into.old) }
+    // The entry under an id, where there is one; its chain lies in the pages.
+    pub(super) fn entry(&self, id: u32) -> Option<Entry>
+        ensures clause { MatchOption result (lookup id (paged_table self.now) ≡ None) (λ e. lookup id (paged_table self.now) ≡ Some (entry_clause self.now.pages e)) }
+        ensures size { IfSome result (λ e. length (entry_clause self.now.pages e) ≡ e.size) }
+        ensures inside { IfSome result (λ e. (k : ℕ) → 1024 ≤ k → times_in k (page_chain self.now.pages e.pages e.head) ≡ 0) }
     {
-        let e = self.entry(at);
-        let n = into.len().min(e.size as usize);
-        let mut p = e.head;
-        for j in 0..n {
-            into[j] = self.pages[p as usize].literals[j % EACH];
-            if j % EACH == EACH - 1 {
-                p = self.pages[p as usize].next;
-            }
-        }
-        e.size as u32
+        let at = self.find(id).ok()?;
+        Some(self.directory[at])
     }
 }

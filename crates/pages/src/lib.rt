@@ -3,6 +3,7 @@
 
 mod changes;
 mod clauses;
+mod entry;
 mod page;
 mod paged;
 mod table;

@@ -1,7 +1,10 @@
 ghost use Rattle.std.specs.Prelude.{◌≡◌, ℕ, ◌+◌, ◌*◌, ◌/◌, ◌%◌, ◌<◌, ◌≤◌, length, slice_index_or};
-ghost use Rattle.pages.specs.Chained.{no_literal, no_page, page_next, page_chain, page_after, times_in, pages_for, FullPages, LinkedLine};
+ghost use Rattle.cnf.specs.Tabled.{no_literal};
+ghost use Rattle.pages.specs.Chained.{no_page, page_next, page_chain, page_after, times_in, FullPages, LinkedLine};
+ghost use Rattle.pages.specs.Sizes.{pages_for};
 
 use cnf::Literal;
+use std::array;
 
 /// The number of pages.
 pub(super) const PAGES: u16 = 1024;
@@ -13,7 +16,8 @@ pub(super) const EACH: usize = 8;
 #[derive(Clone, Copy)]
 pub(super) struct Page {
     pub(super) next: u16,
-    pub(super) literals: [Literal; 8],
+    // That there are eight is said of all pages (`FullPages`): as a ghost field it was tried, and reads of pages by index did not prove.
+    pub(super) literals: [Literal; EACH],
 }
 
 // All pages in one chain, each followed by the next one.
@@ -21,16 +25,10 @@ pub(super) fn all_pages() -> [Page; 1024]
     ensures linked { LinkedLine result 1024 }
     ensures full { FullPages result 1024 }
 {
-    let mut pages = [Page {
-        next: 0,
-        literals: [Literal(0); 8],
-    }; 1024];
-    for i in 0..PAGES {
-        let mut page = pages[i as usize];
-        page.next = i + 1;
-        pages[i as usize] = page;
-    }
-    pages
+    array::from_fn(|i| Page {
+        next: i as u16 + 1,
+        literals: [Literal(0); EACH],
+    })
 }
 
 // The number of pages that n literals take: a clause without literals takes one too.
@@ -38,37 +36,29 @@ pub(super) fn pages_needed(n: usize) -> u16
     requires { n ≤ 1024 }
     ensures { result ≡ pages_for n }
 {
-    if n == 0 {
-        return 1;
-    }
-    ((n + EACH - 1) / EACH) as u16
+    n.div_ceil(EACH).max(1) as u16
 }
 
-// The page to which n steps lead, where all pages up to it are pages.
+// The page to which n steps lead, where all pages up to it are pages. That a chain stays among the pages is a clause, here and
+// below, and no type: it is a fact on the pages, the chain's first one and its length together.
 pub(super) fn walk(pages: &[Page; 1024], head: u16, n: u16) -> u16
     requires { (k : ℕ) → 1024 ≤ k → times_in k (page_chain pages.now (n + 1) head) ≡ 0 }
     ensures is { result ≡ page_after pages.now n head }
     ensures below { result < 1024 }
 {
     let mut p = head;
-    for i in 0..n {
+    for _ in 0..n {
         p = pages[p as usize].next;
     }
     p
 }
 
 // The literals of one page, from a place on: as many as there are.
-fn cut(literals: &[Literal], from: usize) -> [Literal; 8]
+fn cut(literals: &[Literal], from: usize) -> [Literal; EACH]
     requires { from ≤ 8192 }
     ensures { (j : ℕ) → j < 8 → from + j < length literals.now → slice_index_or result j no_literal ≡ slice_index_or literals.now (from + j) no_literal }
 {
-    let mut part = [Literal(0); 8];
-    for j in 0..EACH {
-        if from + j < literals.len() {
-            part[j] = literals[from + j];
-        }
-    }
-    part
+    array::from_fn(|j| literals.get(from + j).copied().unwrap_or(Literal(0)))
 }
 
 // Writes literals to a chain of pages, eight to a page, and gives the page after the chain. No link is changed.
@@ -84,11 +74,10 @@ pub(super) fn fill(pages: &mut [Page; 1024], head: u16, need: u16, literals: &[L
     ensures text { (q : ℕ) → q < 8 * need → q < length literals.now → slice_index_or (slice_index_or pages.new (page_after pages.old (q / 8) head) no_page).literals (q % 8) no_literal ≡ slice_index_or literals.now q no_literal }
 {
     let mut p = head;
+    // By pages and not by chunks of the literals: a clause without literals takes a page too.
     for i in 0..need {
-        let part = cut(literals, i as usize * EACH);
-        let mut page = pages[p as usize];
-        page.literals = part;
-        pages[p as usize] = page;
+        let page = &mut pages[p as usize];
+        page.literals = cut(literals, i as usize * EACH);
         p = page.next;
     }
     p

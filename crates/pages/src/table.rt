@@ -4,7 +4,7 @@ ghost use Rattle.pages.specs.Places.{ascending_table, table_within};
 ghost use Rattle.pages.specs.Owners.{true_sizes};
 ghost use Rattle.std.proofs.Common.{rules};
 
-use crate::page::{PAGES, all_pages};
+use crate::page::{EACH, PAGES, all_pages, pages_needed, walk};
 use crate::paged::PagedStore;
 use cnf::{ClauseId, Fault, Literal};
 use store::Store;
@@ -18,31 +18,22 @@ impl Store for PagedStore {
 
     ghost ascending = { λ s. ascending_table s.pages s.directory.items s.order };
 
-    ghost within = { λ s. table_within s.pages s.spare s.directory.items s.all (true_sizes s.pages s.first s.spare s.directory.items 1024 s.none s.full s.fitting) s.fitting };
+    ghost within = { λ s. table_within s.pages s.spare s.directory.items s.all (true_sizes s.pages s.first s.spare s.directory.items 1024 s.none s.full) };
 
     fn put(&mut self, id: ClauseId, literals: &[Literal]) -> Result<(), Fault> {
-        match self.admit(id.0, literals) {
-            Ok(at) => {
-                self.enter(at, id.0, literals);
-                Ok(())
-            }
-            Err(fault) => Err(fault),
-        }
+        let at = self.admit(id.0, literals)?;
+        self.enter(at, id.0, literals);
+        Ok(())
     }
 
     fn remove(&mut self, id: ClauseId) -> Result<(), Fault> {
-        match self.find(id.0) {
-            Ok(at) => {
-                self.release(at);
-                Ok(())
-            }
-            Err(_) => Err(Fault::NotHeld),
-        }
+        let at = self.find(id.0).map_err(|_| Fault::NotHeld)?;
+        self.release(at);
+        Ok(())
     }
 
     fn clear(&mut self) {
-        let pages = all_pages();
-        self.pages = pages;
+        self.pages = all_pages();
         self.first = 0;
         self.spare = PAGES;
         self.directory.clear();
@@ -57,23 +48,33 @@ impl Store for PagedStore {
     }
 
     fn length(&self, id: ClauseId) -> Option<u32> {
-        match self.find(id.0) {
-            Ok(at) => Some(self.entry(at).size as u32),
-            Err(_) => None,
-        }
+        Some(self.entry(id.0)?.size as u32)
     }
 
     fn literal(&self, id: ClauseId, j: u32) -> Literal {
-        match self.find(id.0) {
-            Ok(at) => self.nth(at, j),
-            Err(_) => Literal(0),
+        let Some(e) = self.entry(id.0) else {
+            return Literal(0);
+        };
+        if j == 0 || j > e.size as u32 {
+            return Literal(0);
         }
+        let q = j as usize - 1;
+        let p = walk(&self.pages, e.head, (q / EACH) as u16);
+        self.pages[p as usize].literals[q % EACH]
     }
 
     fn read(&self, id: ClauseId, into: &mut [Literal]) -> Option<u32> {
-        match self.find(id.0) {
-            Ok(at) => Some(self.copy_out(at, into)),
-            Err(_) => None,
+        let e = self.entry(id.0)?;
+        let n = into.len().min(e.size as usize);
+        let mut p = e.head;
+        // By the number of the page and no `chunks_mut`: after it nothing would be known of what was written.
+        for i in 0..pages_needed(n) {
+            let page = &self.pages[p as usize];
+            let from = i as usize * EACH;
+            let end = n.min(from + EACH);
+            into[from..end].copy_from_slice(&page.literals[..end - from]);
+            p = page.next;
         }
+        Some(e.size as u32)
     }
 }

@@ -48,23 +48,23 @@ module _ (t : Tables) (givens_fit : 81 ≤ t.for_givens) (claims_fit : 81 ≤ t.
 
   not_full : (P : Puzzle) (b : Bool) (p q : ℕ) (it : Item) → 2 ≤ P.size → P.size ≤ 9 → Registered P → Breaks t P b q it (TableFull p) → ⊥
   not_full P b p q it low high reg h =
-      let board = later h (λ (e : TableFull p ≡ BoardWord q). let z : ◌≡◌ {A = ℕ} 0 1 = cc in omega arith) in
-      let range = later board.1 (λ (e : TableFull p ≡ OutOfRange q). let z : ◌≡◌ {A = ℕ} 0 1 = cc in omega arith) in
-      let key = later range.1 (λ (e : TableFull p ≡ KeyPresent q). let z : ◌≡◌ {A = ℕ} 0 1 = cc in omega arith) in
-      let side = later key.1 (λ (e : TableFull p ≡ NoSideShared q). let z : ◌≡◌ {A = ℕ} 0 1 = cc in omega arith) in
-      let end = later side.1 (λ (e : TableFull p ≡ EndWord q). let z : ◌≡◌ {A = ℕ} 0 1 = cc in omega arith) in
-      let whole = later end.1 (λ (e : TableFull p ≡ ClaimMissing q). let z : ◌≡◌ {A = ℕ} 0 1 = cc in omega arith) in
+      let board = later h (λ (e : TableFull p ≡ BoardWord q). cc) in
+      let range = later board.1 (λ (e : TableFull p ≡ OutOfRange q). cc) in
+      let key = later range.1 (λ (e : TableFull p ≡ KeyPresent q). cc) in
+      let side = later key.1 (λ (e : TableFull p ≡ NoSideShared q). cc) in
+      let end = later side.1 (λ (e : TableFull p ≡ EndWord q). cc) in
+      let whole = later end.1 (λ (e : TableFull p ≡ ClaimMissing q). cc) in
       elim whole.1 [ inl x ↦ x.0 (room P it low high reg range.0 key.0 side.0) | inr n ↦ n.1 ]
 
   never_full : (P : Puzzle) (b : Bool) (p q : ℕ) (ws : List ℕ) → 2 ≤ P.size → P.size ≤ 9 → Registered P → Stop t P b q ws (TableFull p) → ⊥
-  never_full P b p q [] low high reg s = let e = s.1 in let z : ◌≡◌ {A = ℕ} 0 1 = cc in omega arith
-  never_full P b p q (w ∷ ws) low high reg s = elim s [ inl a ↦ let e = a.1 in let z : ◌≡◌ {A = ℕ} 0 1 = cc in omega arith | inr a ↦ not_full P b p q a.0 low high reg a.3 ]
+  never_full P b p q [] low high reg s = let e = s.1 in cc
+  never_full P b p q (w ∷ ws) low high reg s = elim s [ inl a ↦ let e = a.1 in cc | inr a ↦ not_full P b p q a.0 low high reg a.3 ]
 
   never_refused : (ws : List ℕ) (p : ℕ) → Refused t ws (TableFull p) → ⊥
-  never_refused [] p r = let z : ◌≡◌ {A = ℕ} 0 1 = cc in omega arith
+  never_refused [] p r = cc
   never_refused (w ∷ ws) p r =
       elim r [
-        | inl a ↦ elim a [ inl b ↦ let e = b.1 in let z : ◌≡◌ {A = ℕ} 0 1 = cc in omega arith | inr b ↦ let e = b.4 in let z : ◌≡◌ {A = ℕ} 0 1 = cc in omega arith ]
+        | inl a ↦ elim a [ inl b ↦ let e = b.1 in cc | inr b ↦ let e = b.4 in cc ]
         | inr s ↦ let e : s.puzzle.size ≡ s.side = ap (λ (Q : Puzzle). Q.size) s.in_order.made in
             never_full s.puzzle s.ended p (2 + length s.items) s.rest (omega (arith, s.low)) (omega (arith, s.high)) s.in_order.registered s.why
       ]

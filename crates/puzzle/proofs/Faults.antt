@@ -1,5 +1,5 @@
 -- A table of tests against the table of their conditions.
-use Rattle.std.proofs.Common.{◌≡◌, ℕ, ◌≤◌, Bool, true, false, ◌⊎◌, List, [], ◌∷◌, Err, Decides, refl, ◌∙◌, inl, inr, arith}
+use Rattle.std.proofs.Common.{◌≡◌, ℕ, ◌≤◌, Bool, true, false, ◌⊎◌, List, [], ◌∷◌, Err, Decides, refl, ◌∙◌, inl, inr}
 use Rattle.std.proofs.lemmas.Bool.{not-true, not_from_false}
 use Rattle.std.proofs.lemmas.Bool.Decides.{not_from_Decides}
 use Rattle.cnf.specs.declared.fault.Fault.{Fault}
@@ -47,7 +47,7 @@ check_then false g rest f h = inl (refl, cc)
 
 broken : (bs : List (Fault × Bool)) (cs : List (Fault × Type 0)) (f : Fault) → Told bs cs → first_failed bs ≡ Err f → FirstBroken cs f
 unfolding first_failed
-broken [] [] f d h = let z : ◌≡◌ {A = ℕ} 0 1 = cc in absurd (omega arith)
+broken [] [] f d h = cc
 broken [] (c ∷ cs) f d h = absurd d
 broken (b ∷ bs) [] f d h = absurd d
 broken (b ∷ bs) (c ∷ cs) f d h =

@@ -97,7 +97,7 @@ onward t P₀ p w ws f it i e r =
 -- after the end word reading stops at the next word
 past : (t : Tables) (P₀ : Puzzle) (p : ℕ) (ws : List ℕ) (f : Fault) → 1 ≤ P₀.size → read_from t (record { so_far = P₀; after_end = true }) p ws ≡ Err f → Stop t P₀ true p ws f
 unfolding read_from
-past t P₀ p [] f some h = let z : ◌≡◌ {A = ℕ} 0 1 = cc in absurd (omega arith)
+past t P₀ p [] f some h = cc
 past t P₀ p (w ∷ ws) f some h =
     elim (stop_here t (record { so_far = P₀; after_end = true }) p w ws f _ some h) [
       | inl s ↦ s

@@ -1,5 +1,5 @@
 -- Each test of a word decides its condition.
-use Rattle.std.proofs.Common.{◌≡◌, ℕ, ◌*◌, ◌≤◌, true, false, ◌&&◌, eqb, leb, List, [], ◌∷◌, length, Decides, refl, arith}
+use Rattle.std.proofs.Common.{◌≡◌, ℕ, ◌*◌, ◌≤◌, true, false, ◌&&◌, eqb, leb, nat_eq, List, [], ◌∷◌, length, Decides, refl, arith}
 use Rattle.std.specs.List.{AllByRecursion}
 use Rattle.std.proofs.lemmas.Bool.{leb-true, le-leb, not-true, not_from_false, both_ways}
 use Rattle.std.proofs.lemmas.Bool.Decides.{Decides-and, Decides-or, Decides-ltb, Decides-eqb}
@@ -7,17 +7,17 @@ use Rattle.futoshiki.specs.Board.{InRange, up_to}
 use Rattle.futoshiki.specs.Rules.{in_range}
 use Rattle.futoshiki.proofs.Lists.{all_counting, all_from_counting}
 use Rattle.futoshiki.proofs.Adjacent.{shares, shared}
-use Rattle.roster.specs.Keys.{same_key, has_key}
+use Rattle.register.specs.Keys.{has_key}
 use Rattle.words.specs.declared.entry.Entry.{Entry}
 use Rattle.words.specs.declared.item.Item.{Item}
 use Rattle.words.specs.declared.item.Item.TheVariants.{Board, Given, Claim, Less, End}
-use Rattle.futoshiki.specs.Pairs.{pair_key}
-use Rattle.words.specs.Cells.{cell_key, entry_key}
+use Rattle.futoshiki.specs.Pairs.{pair_key, same_pair}
+use Rattle.words.specs.Cells.{entry_key}
 use Rattle.puzzle.specs.Registers.{SameCell, SamePair, Any}
 use Rattle.puzzle.specs.Reading.{Puzzle, Tables, opens, no_board, item_ranged, new_key, side_shared, all_claimed, claims_whole, has_room}
 use Rattle.puzzle.specs.Accepted.{Claimed}
 use Rattle.puzzle.specs.Refused.{Opens, NoBoard, ItemRanged, NewKey, SideShared, ClaimsWhole, HasRoom}
-use Rattle.puzzle.proofs.Keys.{told_cell_key, told_cell, told_pair, absent, absent_from}
+use Rattle.puzzle.proofs.Keys.{told_cell, told_pair, absent, absent_from}
 
 always : Decides true (Unit {0})
 always = ((λ h. tt), λ h. refl)
@@ -57,9 +57,9 @@ told_range N End = always
 
 pub told_key : (P : Puzzle) (it : Item) → Decides (new_key P it) (NewKey P it)
 told_key P (Board p N) = always
-told_key P (Given e) = ((λ h. absent entry_key SameCell told_cell e P.givens (not-true _ h)), λ h. not_from_false _ (absent_from entry_key SameCell told_cell e P.givens h))
-told_key P (Claim e) = ((λ h. absent entry_key SameCell told_cell e P.claims (not-true _ h)), λ h. not_from_false _ (absent_from entry_key SameCell told_cell e P.claims h))
-told_key P (Less s) = ((λ h. absent pair_key SamePair told_pair s P.signs (not-true _ h)), λ h. not_from_false _ (absent_from pair_key SamePair told_pair s P.signs h))
+told_key P (Given e) = ((λ h. absent nat_eq entry_key SameCell told_cell e P.givens (not-true _ h)), λ h. not_from_false _ (absent_from nat_eq entry_key SameCell told_cell e P.givens h))
+told_key P (Claim e) = ((λ h. absent nat_eq entry_key SameCell told_cell e P.claims (not-true _ h)), λ h. not_from_false _ (absent_from nat_eq entry_key SameCell told_cell e P.claims h))
+told_key P (Less s) = ((λ h. absent same_pair pair_key SamePair told_pair s P.signs (not-true _ h)), λ h. not_from_false _ (absent_from same_pair pair_key SamePair told_pair s P.signs h))
 told_key P End = always
 
 pub told_side : (N : ℕ) (it : Item) → 1 ≤ N → ItemRanged N it → Decides (side_shared N it) (SideShared N it)
@@ -70,14 +70,14 @@ told_side N (Less s) some r = (shares N some s.lesser s.greater r.0 r.1, shared 
 told_side N End some r = always
 
 -- a cell is found among the claims exactly when one of them claims it
-told_claimed : (es : List Entry) (i : ℕ) → Decides (has_key entry_key es (cell_key i)) (Any (λ e. e.cell ≡ i) es)
+told_claimed : (es : List Entry) (i : ℕ) → Decides (has_key nat_eq entry_key es i) (Any (λ e. e.cell ≡ i) es)
 told_claimed [] i = never
-told_claimed (e ∷ es) i = Decides-or (same_key (entry_key e) (cell_key i)) (has_key entry_key es (cell_key i)) (told_cell_key e.cell i) (told_claimed es i)
+told_claimed (e ∷ es) i = Decides-or (nat_eq (entry_key e) i) (has_key nat_eq entry_key es i) (Decides-eqb e.cell i) (told_claimed es i)
 
 told_all : (es : List Entry) (is : List ℕ) → Decides (all_claimed es is) (AllByRecursion (λ i. Any (λ e. e.cell ≡ i) es) is)
 unfolding all_claimed
 told_all es [] = always
-told_all es (i ∷ is) = Decides-and (has_key entry_key es (cell_key i)) (all_claimed es is) (told_claimed es i) (told_all es is)
+told_all es (i ∷ is) = Decides-and (has_key nat_eq entry_key es i) (all_claimed es is) (told_claimed es i) (told_all es is)
 
 whole_says : (P : Puzzle) → claims_whole P End ≡ true → Claimed P
 whole_says P h i w = all_from_counting (λ j. Any (λ e. e.cell ≡ j) P.claims) 1 (P.size * P.size) ((told_all P.claims (up_to (P.size * P.size))).0 h) i w.0 (omega arith)

@@ -30,7 +30,7 @@ record Rest (t : Tables) (P₀ : Puzzle) (ws : List ℕ) (P : Puzzle) : Type 0 w
   whole : Claimed P
 
 pub not_taken : (f : Fault) (P : Puzzle) → ◌≡◌ {A = Verdict} (Err f) (Ok P) → ⊥
-not_taken f P h = let z : ◌≡◌ {A = ℕ} 0 1 = cc in omega arith
+not_taken f P h = cc
 
 read_on_parts : (a : Answer) (r : Verdict) (P : Puzzle) → read_on a r ≡ Ok P → (a ≡ accepted) × (r ≡ Ok P)
 read_on_parts (Ok tt) r P h = (refl, h)

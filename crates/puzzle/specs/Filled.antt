@@ -2,7 +2,7 @@
 use Rattle.std.specs.Prelude.{ℕ, List, [], length, Ok, Err, Result}
 use Rattle.cnf.specs.declared.fault.Fault.{Fault}
 use Rattle.futoshiki.specs.declared.sign.Sign.{Sign}
-use Rattle.roster.specs.Held.{laid_out}
+use Rattle.register.specs.Held.{laid_out}
 use Rattle.words.specs.declared.entry.Entry.{Entry}
 use Rattle.puzzle.specs.declared.taken.Taken.{Taken}
 use Rattle.puzzle.specs.Reading.{Tables, Verdict}

@@ -1,18 +1,18 @@
 -- Reading a list of words: each is tried in the order of the faults, and the first fault is the answer.
-use Rattle.std.specs.Prelude.{ℕ, suc, ◌*◌, Bool, true, false, cond, not, ◌&&◌, ◌||◌, List, [], ◌∷◌, ◌++◌, length, Some, None, Ok, Err, Option, Result, ◌==◌, nat_le, nat_lt}
+use Rattle.std.specs.Prelude.{ℕ, suc, ◌*◌, Bool, true, false, cond, not, ◌&&◌, ◌||◌, List, [], ◌∷◌, ◌++◌, length, Some, None, Ok, Err, Option, Result, ◌==◌, nat_eq, nat_le, nat_lt}
 use Rattle.cnf.specs.declared.fault.Fault.{Fault}
 use Rattle.cnf.specs.declared.fault.Fault.TheVariants.{WordForm, BoardWord, OutOfRange, KeyPresent, NoSideShared, EndWord, ClaimMissing, TableFull}
 use Rattle.cnf.specs.Faults.{Answer, accepted, ◌then◌, check_for}
 use Rattle.futoshiki.specs.declared.sign.Sign.{Sign}
 use Rattle.futoshiki.specs.Board.{up_to, sharing_side}
 use Rattle.futoshiki.specs.Rules.{in_range}
-use Rattle.roster.specs.Keys.{has_key}
+use Rattle.register.specs.Keys.{has_key}
 use Rattle.words.specs.declared.entry.Entry.{Entry}
 use Rattle.words.specs.declared.item.Item.{Item}
 use Rattle.words.specs.declared.item.Item.TheVariants.{Board, Given, Claim, Less, End}
 use Rattle.words.specs.Layouts.{decoded}
-use Rattle.futoshiki.specs.Pairs.{pair_key}
-use Rattle.words.specs.Cells.{cell_key, entry_key}
+use Rattle.futoshiki.specs.Pairs.{pair_key, same_pair}
+use Rattle.words.specs.Cells.{entry_key}
 
 -- a puzzle: the side of its board, and its three registers
 pub record Puzzle : Type 0 where
@@ -94,9 +94,9 @@ item_ranged N End = true
 -- 4: its register has no record with its key
 abbrev pub new_key : Puzzle → Item → Bool
 new_key P (Board p N) = true
-new_key P (Given e) = not (has_key entry_key P.givens (entry_key e))
-new_key P (Claim e) = not (has_key entry_key P.claims (entry_key e))
-new_key P (Less s) = not (has_key pair_key P.signs (pair_key s))
+new_key P (Given e) = not (has_key nat_eq entry_key P.givens (entry_key e))
+new_key P (Claim e) = not (has_key nat_eq entry_key P.claims (entry_key e))
+new_key P (Less s) = not (has_key same_pair pair_key P.signs (pair_key s))
 new_key P End = true
 
 -- 5: a sign's cells share a side
@@ -110,7 +110,7 @@ side_shared N End = true
 -- whether each cell of a list is claimed
 unfoldable pub all_claimed : List Entry → List ℕ → Bool
 all_claimed es [] = true
-all_claimed es (i ∷ is) = has_key entry_key es (cell_key i) && all_claimed es is
+all_claimed es (i ∷ is) = has_key nat_eq entry_key es i && all_claimed es is
 
 -- 7: at the end word, no cell lacks its claim
 abbrev pub claims_whole : Puzzle → Item → Bool

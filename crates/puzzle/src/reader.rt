@@ -1,19 +1,13 @@
-ghost use Rattle.std.specs.Prelude.{◌≡◌, ◌≤◌, ◌||◌, length, drop, is_ok, if◌then◌else◌};
+ghost use Rattle.std.specs.Prelude.{◌≡◌, ◌||◌, is_ok, if◌then◌else◌, Ok, Err, MatchResult};
 ghost use Rattle.puzzle.specs.Reading.{blank_board, with_item, ends_list, item_answer, read_from, opened, read_list};
-ghost use Rattle.puzzle.specs.Steps.{puzzle_held, state_held, tables_held, verdict_of, verdict_with, side_told, SameTable};
+ghost use Rattle.puzzle.specs.Steps.{puzzle_held, state_held, tables_held, verdict_of, verdict_with, side_told, SameTables};
 
-use crate::enter::{end_list, enter_entry, enter_sign};
+use crate::enter::{end_list, enter};
+use crate::position::Position;
+use crate::registers::Registers;
 use cnf::Fault;
-use futoshiki::Sign;
-use roster::Register;
-use words::{Entry, Item, decode};
-
-// The number of the puzzle, and the smallest and the largest side of a board.
-const FUTOSHIKI: u8 = 1;
-
-const LEAST_SIDE: u8 = 2;
-
-const MOST_SIDE: u8 = 9;
+use futoshiki::Side;
+use words::{FUTOSHIKI, Item, decode};
 
 // Whether the end word has come, by an item that is taken.
 fn ends(ended: bool, item: Item) -> bool
@@ -25,111 +19,68 @@ fn ends(ended: bool, item: Item) -> bool
     }
 }
 
-// Takes what a later word, at a place, says.
-fn take(
-    side: u32,
-    ended: bool,
-    place: u32,
-    item: Item,
-    givens: &mut Register<'_, Entry>,
-    claims: &mut Register<'_, Entry>,
-    signs: &mut Register<'_, Sign>,
-) -> Result<(), Fault>
-    requires { (2 ≤ side) × (side ≤ 9) }
-    ensures answer { result ≡ item_answer (tables_held givens.old claims.old signs.old) (state_held side ended givens.old claims.old signs.old) place item }
-    ensures puzzle { puzzle_held side givens.new claims.new signs.new ≡ (if is_ok result then with_item (puzzle_held side givens.old claims.old signs.old) item else puzzle_held side givens.old claims.old signs.old) }
-    ensures given_table { SameTable givens.old givens.new }
-    ensures claim_table { SameTable claims.old claims.new }
-    ensures sign_table { SameTable signs.old signs.new }
-    ensures given_name { givens.new.slots.ghost_name ≡ givens.old.slots.ghost_name }
-    ensures claim_name { claims.new.slots.ghost_name ≡ claims.old.slots.ghost_name }
-    ensures sign_name { signs.new.slots.ghost_name ≡ signs.old.slots.ghost_name }
-{
-    match item {
-        Item::Board(_, _) => Err(Fault::BoardWord(place)),
-        Item::Given(e) => enter_entry(side, ended, place, e, givens),
-        Item::Claim(e) => enter_entry(side, ended, place, e, claims),
-        Item::Less(s) => enter_sign(side, ended, place, s, signs),
-        Item::End => end_list(side, ended, place, claims),
-    }
-}
-
-// Reads the words after the first, the board's.
-fn read_rest(
-    side: u32,
-    words: &[u32],
-    givens: &mut Register<'_, Entry>,
-    claims: &mut Register<'_, Entry>,
-    signs: &mut Register<'_, Sign>,
-) -> Result<(), Fault>
-    requires ranged { (2 ≤ side) × (side ≤ 9) }
-    requires first { 1 ≤ length words.now }
-    requires fresh { puzzle_held side givens.old claims.old signs.old ≡ blank_board side }
-    ensures answer { verdict_of result (puzzle_held side givens.new claims.new signs.new) ≡ read_from (tables_held givens.old claims.old signs.old) (opened side) 2 (drop 1 words.now) }
-    ensures given_table { SameTable givens.old givens.new }
-    ensures claim_table { SameTable claims.old claims.new }
-    ensures sign_table { SameTable signs.old signs.new }
-    ensures given_name { givens.new.slots.ghost_name ≡ givens.old.slots.ghost_name }
-    ensures claim_name { claims.new.slots.ghost_name ≡ claims.old.slots.ghost_name }
-    ensures sign_name { signs.new.slots.ghost_name ≡ signs.old.slots.ghost_name }
-{
-    let mut ended = false;
-    for i in 1..words.len() {
-        let place = i as u32 + 1;
-        let Some(item) = decode(words[i]) else {
-            return Err(Fault::WordForm(place));
-        };
-        take(side, ended, place, item, givens, claims, signs)?;
-        ended = ends(ended, item);
-    }
-    if !ended {
-        return Err(Fault::EndWord(words.len() as u32 + 1));
-    }
-    Ok(())
-}
-
 // The side that a first word gives, if it is a board's.
-fn board_side(item: Item) -> Result<u32, Fault>
-    ensures { result ≡ side_told item }
+fn board_side(item: Item) -> Result<Side, Fault>
+    ensures { MatchResult result (λ s. side_told item ≡ Ok s.n) (λ f. side_told item ≡ Err f) }
 {
-    let Item::Board(puzzle, side) = item else {
-        return Err(Fault::BoardWord(1));
+    let side = match item {
+        Item::Board(FUTOSHIKI, side) => Side::new(u32::from(side)),
+        _ => None,
     };
-    if puzzle != FUTOSHIKI {
-        return Err(Fault::BoardWord(1));
-    }
-    if side < LEAST_SIDE {
-        return Err(Fault::BoardWord(1));
-    }
-    if side > MOST_SIDE {
-        return Err(Fault::BoardWord(1));
-    }
-    Ok(u32::from(side))
+    side.ok_or(Fault::BoardWord(1))
 }
 
-// Reads a list into three empty registers, and tells the board's side.
-pub(crate) fn read_list(
-    words: &[u32],
-    givens: &mut Register<'_, Entry>,
-    claims: &mut Register<'_, Entry>,
-    signs: &mut Register<'_, Sign>,
-) -> Result<u32, Fault>
-    requires { puzzle_held 0 givens.old claims.old signs.old ≡ blank_board 0 }
-    ensures answer { verdict_with result givens.new claims.new signs.new ≡ read_list (tables_held givens.old claims.old signs.old) words.now }
-    ensures given_table { SameTable givens.old givens.new }
-    ensures claim_table { SameTable claims.old claims.new }
-    ensures sign_table { SameTable signs.old signs.new }
-    ensures given_name { givens.new.slots.ghost_name ≡ givens.old.slots.ghost_name }
-    ensures claim_name { claims.new.slots.ghost_name ≡ claims.old.slots.ghost_name }
-    ensures sign_name { signs.new.slots.ghost_name ≡ signs.old.slots.ghost_name }
-{
-    if words.is_empty() {
-        return Err(Fault::EndWord(1));
+impl Registers<'_, '_, '_, '_, '_, '_> {
+    // Takes what a later word says.
+    fn take(&mut self, at: Position, item: Item) -> Result<(), Fault>
+        ensures answer { result ≡ item_answer (tables_held self.old) (state_held at.side.n at.ended self.old) at.place item }
+        ensures puzzle { puzzle_held at.side.n self.new ≡ (if is_ok result then with_item (puzzle_held at.side.n self.old) item else puzzle_held at.side.n self.old) }
+        ensures tables { SameTables self.old self.new }
+    {
+        match item {
+            Item::Board(_, _) => Err(Fault::BoardWord(at.place)),
+            Item::Given(e) => enter(at, e, self.givens),
+            Item::Claim(e) => enter(at, e, self.claims),
+            Item::Less(s) => enter(at, s, self.signs),
+            Item::End => end_list(at, self.claims),
+        }
     }
-    let Some(item) = decode(words[0]) else {
-        return Err(Fault::WordForm(1));
-    };
-    let side = board_side(item)?;
-    read_rest(side, words, givens, claims, signs)?;
-    Ok(side)
+
+    // Reads the words after the first, the board's.
+    fn read_rest(&mut self, side: Side, words: &[u32]) -> Result<(), Fault>
+        requires { puzzle_held side.n self.old ≡ blank_board side.n }
+        ensures answer { verdict_of result (puzzle_held side.n self.new) ≡ read_from (tables_held self.old) (opened side.n) 2 words.now }
+        ensures tables { SameTables self.old self.new }
+    {
+        let mut ended = false;
+        for (i, word) in words.iter().enumerate() {
+            let place = i as u32 + 2;
+            let Some(item) = decode(*word) else {
+                return Err(Fault::WordForm(place));
+            };
+            self.take(Position { side, ended, place }, item)?;
+            ended = ends(ended, item);
+        }
+        if !ended {
+            return Err(Fault::EndWord(words.len() as u32 + 2));
+        }
+        Ok(())
+    }
+
+    // Reads a list, and tells the board's side.
+    pub(crate) fn read_list(&mut self, words: &[u32]) -> Result<Side, Fault>
+        requires { puzzle_held 0 self.old ≡ blank_board 0 }
+        ensures answer { verdict_with result self.new ≡ read_list (tables_held self.old) words.now }
+        ensures tables { SameTables self.old self.new }
+    {
+        let Some((first, rest)) = words.split_first() else {
+            return Err(Fault::EndWord(1));
+        };
+        let Some(item) = decode(*first) else {
+            return Err(Fault::WordForm(1));
+        };
+        let side = board_side(item)?;
+        self.read_rest(side, rest)?;
+        Ok(side)
+    }
 }

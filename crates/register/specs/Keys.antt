@@ -1,13 +1,12 @@
--- Records by key, and what a register answers.
-use Rattle.std.specs.Prelude.{ℕ, Bool, false, cond, ◌||◌, List, [], ◌∷◌, Ok, Err, Result, ◌==◌}
-use Rattle.register.specs.declared.register.Refusal.{Refusal}
-use Rattle.register.specs.declared.register.Refusal.TheVariants.{Present, Full}
+-- Records by key, where `same` tells whether two keys are equal.
+use Rattle.std.specs.Prelude.{◌≡◌, Bool, false, List, [], ◌∷◌}
+use Rattle.std.specs.List.{AllByRecursion, list_any}
 
 -- whether a key is among those of some records
-abbrev pub has_key : {X : Type 0} → (X → ℕ) → List X → ℕ → Bool
-has_key key_of [] k = false
-has_key key_of (x ∷ xs) k = key_of x == k || has_key key_of xs k
+abbrev pub has_key : {X K : Type 0} → (K → K → Bool) → (X → K) → List X → K → Bool
+has_key same key_of xs k = list_any (λ x. same (key_of x) k) xs
 
--- what an insertion answers, from whether the key is there, the number of records and that of slots: the key comes first
-abbrev pub insert_answer : Bool → ℕ → ℕ → Result (Unit {0}) Refusal
-insert_answer there n slots_there = cond there (Err Present) (cond (n == slots_there) (Err Full) (Ok tt))
+-- no two records have one key
+abbrev pub NoKeyTwice : {X K : Type 0} → (K → K → Bool) → (X → K) → List X → Type 0
+NoKeyTwice same key_of [] = Unit {0}
+NoKeyTwice same key_of (x ∷ xs) = AllByRecursion (λ y. same (key_of x) (key_of y) ≡ false) xs × NoKeyTwice same key_of xs

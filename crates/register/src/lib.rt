@@ -2,7 +2,9 @@
 #![tactic(auto)]
 
 mod record;
+mod refusal;
 mod register;
 
 pub use record::Record;
-pub use register::{Refusal, Register};
+pub use refusal::Refusal;
+pub use register::Register;

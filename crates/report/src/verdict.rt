@@ -5,6 +5,7 @@ use cnf::Fault;
 use std::fmt;
 
 /// The report on a puzzle.
+// No `Result`, which it has the shape of: it is printed, and a `Result` has no `Display`.
 #[derive(Clone, Copy)]
 pub enum Report {
     /// The claim stands: how many variables and clauses its source has.
@@ -19,11 +20,7 @@ impl fmt::Display for Report {
     fn fmt<W: fmt::Write>(&self, f: &mut fmt::Formatter<W>) -> fmt::Result {
         match *self {
             Report::Source(n, m) => write!(f, "source {n} {m}"),
-            Report::Refusal(fault) => {
-                let number = fault.number();
-                let (first, second) = fault.places();
-                write!(f, "refused {number} {first} {second}")
-            }
+            Report::Refusal(fault) => write!(f, "{fault}"),
         }
     }
 }

@@ -52,43 +52,39 @@ fn a_join_lists_the_first_then_the_second(rt: HostRuntime) -> Result<(), Fail> {
 
 #[test]
 fn fixed_literals_keep_their_order(rt: HostRuntime) -> Result<(), Fail> {
-    match Fix::new(listed(8, &[0, 2]), &[Literal(5), Literal(-1), Literal(0)]) {
-        Ok(fixed) => {
-            asked(
-                &rt,
-                &fixed,
-                (8, 4),
-                &[(1, 2), (2, 1), (3, 1), (4, 1), (5, 0)],
-                &[
-                    (1, 2, -8),
-                    (2, 1, 5),
-                    (3, 1, -1),
-                    (3, 0, 0),
-                    (3, 2, 0),
-                    (4, 1, 0),
-                ],
-            )?;
-            assert_eq!(rt; fixed.into_below().clauses(), 1);
-            Ok(())
-        }
-        Err(_) => Err(Fail::new("three literals were refused")),
-    }
+    let fixed = Fix::new(listed(8, &[0, 2]), &[Literal(5), Literal(-1), Literal(0)])
+        .ok()
+        .ok_or("three literals were refused")?;
+    asked(
+        &rt,
+        &fixed,
+        (8, 4),
+        &[(1, 2), (2, 1), (3, 1), (4, 1), (5, 0)],
+        &[
+            (1, 2, -8),
+            (2, 1, 5),
+            (3, 1, -1),
+            (3, 0, 0),
+            (3, 2, 0),
+            (4, 1, 0),
+        ],
+    )?;
+    assert_eq!(rt; fixed.into_below().clauses(), 1);
+    Ok(())
 }
 
 #[test]
 fn up_to_128_literals_are_fixed(rt: HostRuntime) -> Result<(), Fail> {
     let many = [Literal(3); 129];
-    match Fix::new(listed(8, &[0, 2]), &many[0..128]) {
-        Ok(fixed) => asked(&rt, &fixed, (8, 129), &[(129, 1), (130, 0)], &[(129, 1, 3)])?,
-        Err(_) => return Err(Fail::new("128 literals were refused")),
-    }
-    match Fix::new(listed(8, &[0, 2]), &many) {
-        Ok(_) => Err(Fail::new("129 literals were fixed")),
-        Err(unmade) => {
-            assert_eq!(rt; (unmade.fault, unmade.below.clauses()), (Fault::FixFull, 1));
-            Ok(())
-        },
-    }
+    let fixed = Fix::new(listed(8, &[0, 2]), &many[0..128])
+        .ok()
+        .ok_or("128 literals were refused")?;
+    asked(&rt, &fixed, (8, 129), &[(129, 1), (130, 0)], &[(129, 1, 3)])?;
+    let unmade = Fix::new(listed(8, &[0, 2]), &many)
+        .err()
+        .ok_or("129 literals were fixed")?;
+    assert_eq!(rt; (unmade.fault, unmade.below.clauses()), (Fault::FixFull, 1));
+    Ok(())
 }
 
 // What blocking the first bytes of a list over n variables is refused with.
@@ -120,39 +116,37 @@ fn a_block_asks_for_the_claims_form(rt: HostRuntime) -> Result<(), Fail> {
 
 #[test]
 fn a_block_denies_every_value(rt: HostRuntime) -> Result<(), Fail> {
-    match Block::new(listed(3, &[0, 2]), &[1, 0, 1]) {
-        Ok(blocked) => {
-            asked(
-                &rt,
-                &blocked,
-                (3, 2),
-                &[(1, 2), (2, 3), (3, 0)],
-                &[
-                    (1, 1, 7),
-                    (2, 1, -1),
-                    (2, 2, 2),
-                    (2, 3, -3),
-                    (2, 4, 0),
-                    (2, 0, 0),
-                ],
-            )?;
-            assert_eq!(rt; blocked.into_below().clauses(), 1);
-            Ok(())
-        }
-        Err(_) => Err(Fail::new("a claim in form was refused")),
-    }
+    let blocked = Block::new(listed(3, &[0, 2]), &[1, 0, 1])
+        .ok()
+        .ok_or("a claim in form was refused")?;
+    asked(
+        &rt,
+        &blocked,
+        (3, 2),
+        &[(1, 2), (2, 3), (3, 0)],
+        &[
+            (1, 1, 7),
+            (2, 1, -1),
+            (2, 2, 2),
+            (2, 3, -3),
+            (2, 4, 0),
+            (2, 0, 0),
+        ],
+    )?;
+    assert_eq!(rt; blocked.into_below().clauses(), 1);
+    Ok(())
 }
 
 #[test]
 fn the_largest_block(rt: HostRuntime) -> Result<(), Fail> {
-    match Block::new(listed(1024, &[0, 2]), &[1; 1024]) {
-        Ok(blocked) => asked(
-            &rt,
-            &blocked,
-            (1024, 2),
-            &[(2, 1024)],
-            &[(2, 1, -1), (2, 1024, -1024), (2, 1025, 0)],
-        ),
-        Err(_) => Err(Fail::new("a claim in form was refused")),
-    }
+    let blocked = Block::new(listed(1024, &[0, 2]), &[1; 1024])
+        .ok()
+        .ok_or("a claim in form was refused")?;
+    asked(
+        &rt,
+        &blocked,
+        (1024, 2),
+        &[(2, 1024)],
+        &[(2, 1, -1), (2, 1024, -1024), (2, 1025, 0)],
+    )
 }

@@ -51,27 +51,23 @@ fn the_models_are_those_that_keep_the_rules(rt: HostRuntime) {
 
 #[test]
 fn fixing_keeps_the_models_that_make_the_literals_true(rt: HostRuntime) -> Result<(), Fail> {
-    match Fix::new(rules(), &[Literal(-2), Literal(4)]) {
-        Ok(fixed) => {
-            for x in 0..16u8 {
-                assert_eq!(rt; is_model(&fixed, x), keeps(x) && x & 2 == 0 && x & 8 == 8);
-            }
-            Ok(())
-        }
-        Err(_) => Err(Fail::new("two literals were refused")),
+    let fixed = Fix::new(rules(), &[Literal(-2), Literal(4)])
+        .ok()
+        .ok_or("two literals were refused")?;
+    for x in 0..16u8 {
+        assert_eq!(rt; is_model(&fixed, x), keeps(x) && x & 2 == 0 && x & 8 == 8);
     }
+    Ok(())
 }
 
 #[test]
 fn blocking_takes_one_model_away(rt: HostRuntime) -> Result<(), Fail> {
     for gone in 0..16u8 {
-        match Block::new(rules(), &bytes(gone)) {
-            Ok(blocked) => {
-                for x in 0..16u8 {
-                    assert_eq!(rt; is_model(&blocked, x), keeps(x) && x != gone);
-                }
-            }
-            Err(_) => return Err(Fail::new("a claim in form was refused")),
+        let blocked = Block::new(rules(), &bytes(gone))
+            .ok()
+            .ok_or("a claim in form was refused")?;
+        for x in 0..16u8 {
+            assert_eq!(rt; is_model(&blocked, x), keeps(x) && x != gone);
         }
     }
     Ok(())

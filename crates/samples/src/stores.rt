@@ -1,5 +1,6 @@
 use cnf::{ClauseId, Fault, Literal};
 use pages::PagedStore;
+use std::array;
 use std::process::Abort;
 use std::test::Fail;
 use store::{FlatStore, Store};
@@ -26,11 +27,7 @@ fn literal(mark: u32, j: u32) -> Literal {
 
 // The first literals of the clause with a mark.
 fn clause(mark: u32) -> [Literal; 1025] {
-    let mut literals = [Literal(0); 1025];
-    for j in 0..1025u32 {
-        literals[j as usize] = literal(mark, j + 1);
-    }
-    literals
+    array::from_fn(|j| literal(mark, j as u32 + 1))
 }
 
 // A plain model: the mark and the length of the clause under each of forty ids, and the numbers of the kind.
@@ -44,6 +41,16 @@ struct Plain {
 }
 
 impl Plain {
+    fn new(unit: u32, units: u32, longest: u32) -> Plain {
+        Plain {
+            held: [None; 40],
+            used: 0,
+            unit,
+            units,
+            longest,
+        }
+    }
+
     fn cost(&self, length: u32) -> u32 {
         if length <= self.unit || self.unit == 0 {
             return 1;
@@ -81,13 +88,7 @@ impl Plain {
     }
 
     fn count(&self) -> u32 {
-        let mut n = 0u32;
-        for entry in &self.held {
-            if entry.is_some() {
-                n = n.saturating_add(1);
-            }
-        }
-        n
+        self.held.iter().filter(|held| held.is_some()).count() as u32
     }
 }
 
@@ -158,26 +159,14 @@ fn drive<T: Store>(
 #[test]
 fn a_flat_store_against_a_plain_model(rt: HostRuntime) -> Result<(), Fail> {
     let mut store = FlatStore::new(rt.alloc())?;
-    let mut plain = Plain {
-        held: [None; 40],
-        used: 0,
-        unit: 32,
-        units: 64,
-        longest: 32,
-    };
+    let mut plain = Plain::new(32, 64, 32);
     drive(&rt, &mut store, &mut plain, 400)
 }
 
 #[test]
 fn a_paged_store_against_a_plain_model(rt: HostRuntime) -> Result<(), Fail> {
     let mut store = PagedStore::new(rt.alloc())?;
-    let mut plain = Plain {
-        held: [None; 40],
-        used: 0,
-        unit: 8,
-        units: 1024,
-        longest: 1024,
-    };
+    let mut plain = Plain::new(8, 1024, 1024);
     drive(&rt, &mut store, &mut plain, 400)
 }
 

@@ -5,5 +5,4 @@ pub mod Rows
 pub mod Places
 pub mod Canon
 pub mod Stands
-pub mod Held
 pub mod Copies

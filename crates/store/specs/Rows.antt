@@ -1,5 +1,6 @@
 -- Entries that hold their clause in place: the rows that they stand for, and the place of an id among the rows.
-use Rattle.std.specs.Prelude.{◌≡◌, ℕ, suc, ◌<◌, ◌≤◌, Bool, true, cond, ◌&&◌, List, [], ◌∷◌, map, length, take, None, Ok, Err, Result, nat_le, nat_lt, slice_index_or}
+use Rattle.std.specs.Prelude.{◌≡◌, ℕ, suc, ◌<◌, ◌≤◌, Bool, true, cond, ◌&&◌, List, [], ◌∷◌, map, length, None, Ok, Err, Option, Result, MatchOption, nat_le, nat_lt, slice_index_or}
+use Rattle.cnf.specs.declared.literal.Literal.{Literal}
 use Rattle.cnf.specs.Formula.{Clause}
 use Rattle.cnf.specs.Tabled.{numbers_of}
 use Rattle.store.specs.declared.entry.Entry.{Entry}
@@ -9,9 +10,9 @@ use Rattle.store.specs.Tables.{Kind, Table, lookup}
 abbrev pub flat_kind : Kind
 flat_kind = record { unit_size = 32; units = 64; longest = 32 }
 
--- the clause in an entry: as many literals as its size
+-- the clause in an entry
 abbrev pub clause_of : Entry → Clause
-clause_of e = numbers_of (take e.size e.literals)
+clause_of e = numbers_of e.literals.items
 
 -- the row that an entry stands for
 abbrev pub row_of : Entry → ℕ × Clause
@@ -35,3 +36,7 @@ place_in i (e ∷ t) = cond (nat_lt e.0 i) (suc (place_in i t)) 0
 abbrev pub FoundPlace : ℕ → List Entry → Result ℕ ℕ → Type 0
 FoundPlace i es (Ok p) = (p ≡ place_in i (rows_of es)) × (p < length es) × ((d : Entry) → (slice_index_or es p d).id ≡ i)
 FoundPlace i es (Err p) = (p ≡ place_in i (rows_of es)) × (p ≤ length es) × (lookup i (rows_of es) ≡ None)
+
+-- an entry made of an id and literals: none where these are too many
+abbrev pub MadeOf : ℕ → List Literal → Option Entry → Type 0
+MadeOf i ls made = MatchOption made (32 < length ls) (λ e. (length ls ≤ 32) × (row_of e ≡ (i, numbers_of ls)))

@@ -1,5 +1,7 @@
-ghost use Rattle.std.specs.Prelude.{◌≡◌, ◌≤◌, length};
+ghost use Rattle.std.specs.Prelude.{◌≤◌};
+ghost use Rattle.arrayvec.specs.ArrayVec.{array_vec_len};
 
+use arrayvec::ArrayVec;
 use cnf::Literal;
 
 mod clause;
@@ -7,12 +9,10 @@ mod clause;
 /// The longest clause that an entry holds.
 pub const LONGEST: usize = 32;
 
-/// A clause in place, under its id: the first literals, as many as its size; the rest mean nothing.
-#[derive(Clone, Copy)]
+/// A clause in place, under its id.
+#[derive(Drop)]
 pub struct Entry {
     pub id: u32,
-    pub size: u32,
-    pub literals: [Literal; LONGEST],
-    ghost whole: { length literals ≡ 32 },
-    ghost short: { size ≤ 32 },
+    pub literals: ArrayVec<Literal, LONGEST>,
+    ghost short: { array_vec_len literals ≤ 32 },
 }

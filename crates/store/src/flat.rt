@@ -1,5 +1,6 @@
-ghost use Rattle.std.specs.Prelude.{◌≡◌, ◌≤◌, true, [], IfOk, vec_len, vec_capacity};
-ghost use Rattle.store.specs.Rows.{flat_kind, rows_of, ids_ascend, place_in, FoundPlace};
+ghost use Rattle.std.specs.Prelude.{◌≡◌, ◌≤◌, true, [], IfOk, option_map, vec_len, vec_capacity};
+ghost use Rattle.store.specs.Rows.{flat_kind, clause_of, rows_of, ids_ascend, FoundPlace};
+ghost use Rattle.store.specs.Tables.{lookup};
 ghost use Rattle.store.specs.Places.{ascending_from};
 ghost use Rattle.store.specs.Stands.{rows_within};
 ghost use Rattle.std.proofs.Common.{rules};
@@ -13,7 +14,7 @@ use std::alloc::{AllocError, Global};
 const UNITS: usize = 64;
 
 /// A store of at most 64 clauses of at most 32 literals, each in a unit of its own, in order of their ids. All its memory is
-/// taken when it is made, so no call asks for more.
+/// taken when it is made, so no call asks for more, as a map of the library would.
 #[derive(Drop)]
 pub struct FlatStore {
     entries: Vec<Entry>,
@@ -31,35 +32,19 @@ impl FlatStore {
         Ok(FlatStore { entries })
     }
 
-    // The number of clauses with a lesser id.
-    fn place(&self, id: u32) -> usize
-        ensures { result ≡ place_in id (rows_of self.now.entries.items) }
-    {
-        let mut low = 0;
-        let mut high = self.entries.len();
-        while low < high {
-            let middle = (low + high) / 2;
-            if self.entries[middle].id < id {
-                low = middle + 1;
-            } else {
-                high = middle;
-            }
-        }
-        low
-    }
-
     // Where the clause under an id stands, or else where it would.
     fn find(&self, id: ClauseId) -> Result<usize, usize>
         ensures { FoundPlace id.0 self.now.entries.items result }
     {
-        let at = self.place(id.0);
-        if at >= self.entries.len() {
-            return Err(at);
-        }
-        if self.entries[at].id != id.0 {
-            return Err(at);
-        }
-        Ok(at)
+        self.entries.binary_search_by_key(&id.0, |entry| entry.id)
+    }
+
+    // The entry of the clause under an id, where there is one.
+    fn entry(&self, id: ClauseId) -> Option<&Entry>
+        ensures { lookup id.0 (rows_of self.now.entries.items) ≡ option_map (λ e. clause_of e.now) result }
+    {
+        let at = self.find(id).ok()?;
+        Some(&self.entries[at])
     }
 }
 
@@ -78,23 +63,16 @@ impl Store for FlatStore {
         let Err(at) = self.find(id) else {
             return Err(Fault::IdHeld);
         };
-        let Some(entry) = Entry::of(id.0, literals) else {
-            return Err(Fault::TooLong);
-        };
+        let entry = Entry::of(id.0, literals).ok_or(Fault::TooLong)?;
         if self.entries.len() >= UNITS {
             return Err(Fault::NoRoom);
         }
-        match self.entries.insert(at, entry) {
-            Ok(()) => Ok(()),
-            // Never: room for as many entries as there are units was taken when the store was made.
-            Err(_) => Err(Fault::NoRoom),
-        }
+        // Never refused: room for as many entries as there are units was taken when the store was made.
+        self.entries.insert(at, entry).map_err(|_| Fault::NoRoom)
     }
 
     fn remove(&mut self, id: ClauseId) -> Result<(), Fault> {
-        let Ok(at) = self.find(id) else {
-            return Err(Fault::NotHeld);
-        };
+        let at = self.find(id).map_err(|_| Fault::NotHeld)?;
         self.entries.remove(at);
         Ok(())
     }
@@ -112,24 +90,15 @@ impl Store for FlatStore {
     }
 
     fn length(&self, id: ClauseId) -> Option<u32> {
-        let Ok(at) = self.find(id) else {
-            return None;
-        };
-        Some(self.entries[at].length())
+        self.entry(id).map(Entry::length)
     }
 
     fn literal(&self, id: ClauseId, j: u32) -> Literal {
-        let Ok(at) = self.find(id) else {
-            return Literal(0);
-        };
-        self.entries[at].literal(j)
+        self.entry(id).map_or(Literal(0), |entry| entry.literal(j))
     }
 
     fn read(&self, id: ClauseId, into: &mut [Literal]) -> Option<u32> {
-        let Ok(at) = self.find(id) else {
-            return None;
-        };
-        let entry = &self.entries[at];
+        let entry = self.entry(id)?;
         entry.copy_to(into);
         Some(entry.length())
     }

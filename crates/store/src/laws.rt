@@ -5,8 +5,8 @@ ghost use Rattle.store.specs.Laws.{LawfulTable, TableLaws};
 
 use crate::store::Store;
 
-/// Does nothing. Its contract is what holds of all tables: what a put and a remove answer and leave, and that tables which find
-/// the same under every id are the same.
+/// Does nothing. Its contract is what holds of all lawful tables: what a put and a remove answer and leave, and that tables which
+/// find the same under every id are the same.
 pub fn table_laws()
     ensures laws { (k : Kind) (t : Table) (i : ℕ) (c : Clause) → LawfulTable k t → TableLaws k t i c }
     ensures same { (t u : Table) → Ascending 0 t → Ascending 0 u → ((i : ℕ) → lookup i t ≡ lookup i u) → t ≡ u }

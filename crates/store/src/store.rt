@@ -38,21 +38,21 @@ pub trait Store {
         ensures { result ≡ length_in (lookup id.0 (table self.now)) };
 
     /// Literal j of the clause under an id, counted from 1; 0 where there is none.
+    // No `Option`: as of a source, 0 is told where there is none (docs/RULES.md).
     fn literal(&self, id: ClauseId, j: u32) -> Literal
         ensures { result.0 ≡ literal_in j (lookup id.0 (table self.now)) };
 
     /// The length of the clause under an id, where there is one, with its literals written to the beginning of a slice, as
     /// many as fit. One look-up for all of them, where a store answers it itself.
+    // Into a lent slice, and the length as the answer: reading allocates nothing.
     fn read(&self, id: ClauseId, into: &mut [Literal]) -> Option<u32>
         ensures answer { result ≡ length_in (lookup id.0 (table self.now)) }
         ensures written { numbers_of into.new ≡ read_over (lookup id.0 (table self.now)) (numbers_of into.old) }
     {
         let len = self.length(id)?;
-        for j in 0..len {
-            if j as usize >= into.len() {
-                break;
-            }
-            into[j as usize] = self.literal(id, j + 1);
+        let written = into.len().min(len as usize);
+        for (j, slot) in into[..written].iter_mut().enumerate() {
+            *slot = self.literal(id, j as u32 + 1);
         }
         Some(len)
     }

@@ -3,22 +3,19 @@
 
 use cnf::{ClauseId, Fault, Literal};
 use pages::PagedStore;
+use std::array;
 use store::Store;
 
 // The clause that is put under an id: nine literals, so two pages.
 fn clause(id: u32) -> [Literal; 9] {
-    let mut literals = [Literal(0); 9];
-    for j in 0..9u8 {
+    array::from_fn(|j| {
         let v = (id % 1000) as i32 + j as i32 + 1;
-        literals[j as usize] = if j % 2 == 0 { Literal(v) } else { Literal(-v) };
-    }
-    literals
+        Literal(if j % 2 == 0 { v } else { -v })
+    })
 }
 
 fn show<T: Store>(rt: &HostRuntime, store: &T) -> anyhow::Result<()> {
-    let held = store.held();
-    let free = store.free();
-    println!(rt; "held {held} free {free}")?;
+    println!(rt; "held {} free {}", store.held(), store.free())?;
     Ok(())
 }
 
@@ -30,16 +27,12 @@ fn show_answer(
 ) -> anyhow::Result<()> {
     match answer {
         Ok(()) => println!(rt; "{what} {id}")?,
-        Err(fault) => {
-            let number = fault.number();
-            let (first, second) = fault.places();
-            println!(rt; "{what} {id} refused {number} {first} {second}")?;
-        }
+        Err(fault) => println!(rt; "{what} {id} {fault}")?,
     }
     Ok(())
 }
 
-// Puts clauses under the ids from 1 on until one is refused, and gives its id.
+// Puts clauses under the ids from 1 on until one is refused, and prints that.
 fn fill<T: Store>(rt: &HostRuntime, store: &mut T) -> anyhow::Result<()> {
     for id in 1..2000u32 {
         let answer = store.put(ClauseId(id), &clause(id));
@@ -57,8 +50,7 @@ fn show_clause<T: Store>(rt: &HostRuntime, store: &T, id: u32) -> anyhow::Result
         Some(length) => {
             print!(rt; "clause {id}:")?;
             for l in literals.iter().take(length as usize) {
-                let number = l.0;
-                print!(rt; " {number}")?;
+                print!(rt; " {}", l.0)?;
             }
             println!(rt; "")?;
         }

@@ -1,30 +1,18 @@
--- What a word of each kind says, kind by kind.
-use Rattle.std.proofs.Common.{◌≡◌, ℕ, ◌≢◌, None}
+-- A word of no known kind says nothing.
+use Rattle.std.proofs.Common.{◌≡◌, ℕ, ◌≢◌, None, Ok, Err, Result, arith}
+use Rattle.std.specs.Result.{result_ok}
 use Rattle.std.proofs.lemmas.Bool.{ne_eqb}
-use Rattle.words.specs.declared.item.Item.TheVariants.{Board, Given, Claim, Less, End}
-use Rattle.words.specs.Layouts.{field, kind_of, entry_in, sign_in, clean, decoded}
+use Rattle.words.specs.declared.kind.Kind.{Kind}
+use Rattle.words.specs.declared.kind.Kind.TheVariants.{Board, Given, Less, Claim, End}
+use Rattle.words.specs.declared.kind.UnknownKind.{UnknownKind}
+use Rattle.words.specs.Kinds.{code_of, Decodes}
+use Rattle.words.specs.Layouts.{kind_of, decoded}
 
-module _ (w : ℕ) where
-  pub board_kind : kind_of w ≡ 1 → decoded w ≡ clean 16 w (Board (field w 24 4) (field w 16 8))
-  unfolding decoded
-  board_kind h = rw h
+other_kind : (w : ℕ) → ((kind : Kind) → kind_of w ≢ code_of kind) → decoded w ≡ None
+unfolding decoded
+other_kind w other =
+    rw (ne_eqb (kind_of w) 1 (other Board), ne_eqb (kind_of w) 2 (other Given), ne_eqb (kind_of w) 3 (other Less), ne_eqb (kind_of w) 5 (other Claim), ne_eqb (kind_of w) 15 (other End))
 
-  pub given_kind : kind_of w ≡ 2 → decoded w ≡ clean 8 w (Given (entry_in w))
-  unfolding decoded
-  given_kind h = rw h
-
-  pub sign_kind : kind_of w ≡ 3 → decoded w ≡ clean 4 w (Less (sign_in w))
-  unfolding decoded
-  sign_kind h = rw h
-
-  pub claim_kind : kind_of w ≡ 5 → decoded w ≡ clean 8 w (Claim (entry_in w))
-  unfolding decoded
-  claim_kind h = rw h
-
-  pub end_kind : kind_of w ≡ 15 → decoded w ≡ clean 28 w End
-  unfolding decoded
-  end_kind h = rw h
-
-  pub other_kind : kind_of w ≢ 1 → kind_of w ≢ 2 → kind_of w ≢ 3 → kind_of w ≢ 5 → kind_of w ≢ 15 → decoded w ≡ None
-  unfolding decoded
-  other_kind a b c d e = rw (ne_eqb (kind_of w) 1 a, ne_eqb (kind_of w) 2 b, ne_eqb (kind_of w) 3 c, ne_eqb (kind_of w) 5 d, ne_eqb (kind_of w) 15 e)
+pub unknown_kind : (w : ℕ) (r : Result Kind UnknownKind) → Decodes (kind_of w) r → result_ok r ≡ None → decoded w ≡ None
+unknown_kind w (Ok kind) d n = let z : ◌≡◌ {A = ℕ} 0 1 = cc in absurd (omega arith)
+unknown_kind w (Err e) d n = other_kind w d.1

@@ -1,9 +1,10 @@
 -- Words and their bytes.
-use Rattle.std.proofs.Common.{◌≡◌, ℕ, ◌+◌, ◌*◌, ◌/◌, ◌%◌, ◌^◌, ◌<◌, ◌≤◌, List, [], ◌∷◌, ◌++◌, length, get_or, take, drop, sym, refl, ap, ◌∙◌, ap₂, append_assoc, append-nil, add_assoc, arith}
-use Rattle.std.proofs.lemmas.List.{take_more, drop_more, length-drop, flat_map_more}
+use Rattle.std.proofs.Common.{◌≡◌, ◌≢◌, ℕ, zero, suc, map, ◌+◌, ◌*◌, ◌/◌, ◌%◌, ◌^◌, ◌<◌, ◌≤◌, List, [], ◌∷◌, ◌++◌, length, drop, sym, refl, ap, ◌∙◌, ap₂, append-nil, arith}
 use Rattle.std.proofs.lemmas.Nat.{shr_split, mod-pow-add}
+use Rattle.std.specs.Int.{w32, from_le_bytes}
+use Rattle.std.specs.Simd.{first_chunks}
 use Rattle.words.specs.Layouts.{decoded}
-use Rattle.words.specs.Bytes.{odd_word, word_of, words_in, four_bytes, bytes_in}
+use Rattle.words.specs.Bytes.{odd_word, word_of, words_in, bytes_in}
 use Rattle.words.specs.Laws.{SaysNothing, further_word, BytesRead}
 use Rattle.words.proofs.Layouting.{says_nothing}
 
@@ -31,43 +32,35 @@ odd_nothing = says_nothing 0 refl
 pub bytes_read : BytesRead
 bytes_read = record { words_back = each; odd_says_nothing = odd_nothing }
 
--- four bytes on, one word more
-pub next_word : (bs : List ℕ) (i : ℕ) → i + 4 ≤ length bs → words_in (drop i bs) ≡ word_of (get_or bs i 0) (get_or bs (i + 1) 0) (get_or bs (i + 2) 0) (get_or bs (i + 3) 0) ∷ words_in (drop (i + 4) bs)
+-- the words of four bytes each, and the further word of the odd bytes
+in_fours : (k : ℕ) (bs : List ℕ) → k * 4 ≤ length bs → length bs < k * 4 + 4
+    → map (from_le_bytes w32) (first_chunks 4 k bs) ++ further_word (drop (k * 4) bs) ≡ words_in bs
 unfolding words_in
-next_word bs i h =
-    ap words_in (drop_more bs i 0 (omega arith))
-    ∙ ap (λ r. words_in (get_or bs i 0 ∷ r)) (drop_more bs (i + 1) 0 (omega arith))
-    ∙ ap (λ k. words_in (get_or bs i 0 ∷ get_or bs (i + 1) 0 ∷ drop k bs)) (add_assoc i 1 1)
-    ∙ ap (λ r. words_in (get_or bs i 0 ∷ get_or bs (i + 1) 0 ∷ r)) (drop_more bs (i + 2) 0 (omega arith))
-    ∙ ap (λ k. words_in (get_or bs i 0 ∷ get_or bs (i + 1) 0 ∷ get_or bs (i + 2) 0 ∷ drop k bs)) (add_assoc i 2 1)
-    ∙ ap (λ r. words_in (get_or bs i 0 ∷ get_or bs (i + 1) 0 ∷ get_or bs (i + 2) 0 ∷ r)) (drop_more bs (i + 3) 0 (omega arith))
-    ∙ ap (λ k. words_in (get_or bs i 0 ∷ get_or bs (i + 1) 0 ∷ get_or bs (i + 2) 0 ∷ get_or bs (i + 3) 0 ∷ drop k bs)) (add_assoc i 3 1)
+in_fours zero bs l h = sym (odd bs h)
+in_fours (suc k) [] l h = absurd (omega arith)
+in_fours (suc k) (a ∷ []) l h = absurd (omega arith)
+in_fours (suc k) (a ∷ b ∷ []) l h = absurd (omega arith)
+in_fours (suc k) (a ∷ b ∷ c ∷ []) l h = absurd (omega arith)
+in_fours (suc k) (a ∷ b ∷ c ∷ d ∷ bs) l h =
+    let n : suc k * 4 ≡ suc (suc (suc (suc (k * 4)))) = omega arith in
+    ap (λ m. map (from_le_bytes w32) (first_chunks 4 (suc k) (a ∷ b ∷ c ∷ d ∷ bs)) ++ further_word (drop m (a ∷ b ∷ c ∷ d ∷ bs))) n
+    ∙ ap (λ ws. word_of a b c d ∷ ws) (in_fours k bs (omega arith) (omega arith))
 
--- fewer than four bytes are left, if any
-pub last_word : (bs : List ℕ) → 0 < length bs → length bs < 4 → words_in bs ≡ odd_word ∷ []
-unfolding words_in
-last_word [] p h = absurd (omega arith)
-last_word (a ∷ []) p h = refl
-last_word (a ∷ b ∷ []) p h = refl
-last_word (a ∷ b ∷ c ∷ []) p h = refl
-last_word (a ∷ b ∷ c ∷ d ∷ bs) p h = absurd (omega arith)
+-- the words that fours of bytes give, and the further word where a byte is left
+module _ (bs ws odds : List ℕ) (each_four : ws ≡ map (from_le_bytes w32) (first_chunks 4 (length bs / 4) bs)) (after : odds ≡ drop (length bs / 4 * 4) bs) where
+  with_odd : ws ++ further_word odds ≡ words_in bs
+  with_odd = ap₂ (λ vs r. vs ++ further_word r) each_four after ∙ in_fours (length bs / 4) bs (omega arith) (omega arith)
 
-pub no_word : (bs : List ℕ) → length bs ≡ 0 → words_in bs ≡ []
-unfolding words_in
-no_word [] h = refl
-no_word (a ∷ bs) h = absurd (omega arith)
+  pub some_left : length odds ≢ 0 → ws ++ odd_word ∷ [] ≡ words_in bs
+  some_left h = ap (λ r. ws ++ r) (go odds h) ∙ with_odd
+    where
+      go : (l : List ℕ) → length l ≢ 0 → odd_word ∷ [] ≡ further_word l
+      go [] h = absurd (h refl)
+      go (b ∷ l) h = refl
 
--- one word more, four bytes more
-pub more_bytes : (ws : List ℕ) (i : ℕ) → i < length ws → bytes_in (take (i + 1) ws) ≡ bytes_in (take i ws) ++ four_bytes (get_or ws i 0)
-more_bytes ws i h = ap bytes_in (take_more ws i 0 h) ∙ sym (flat_map_more four_bytes [] (take i ws) (get_or ws i 0))
-
-module _ (vs bs total : List ℕ) (i : ℕ) (inv : vs ++ words_in (drop i bs) ≡ total) where
-  -- the words so far and those of the bytes that are left stay the same, word by word
-  pub one_more : i + 4 ≤ length bs → (vs ++ word_of (get_or bs i 0) (get_or bs (i + 1) 0) (get_or bs (i + 2) 0) (get_or bs (i + 3) 0) ∷ []) ++ words_in (drop (i + 4) bs) ≡ total
-  one_more h = append_assoc vs _ (words_in (drop (i + 4) bs)) ∙ ap (λ r. vs ++ r) (sym (next_word bs i h)) ∙ inv
-
-  pub one_odd : i < length bs → length bs < i + 4 → vs ++ odd_word ∷ [] ≡ total
-  one_odd p h = let l = length-drop i bs in ap (λ r. vs ++ r) (sym (last_word (drop i bs) (omega arith) (omega arith))) ∙ inv
-
-  pub none_odd : length bs ≤ i → vs ≡ total
-  none_odd h = let l = length-drop i bs in sym (append-nil vs) ∙ ap (λ r. vs ++ r) (sym (no_word (drop i bs) (omega arith))) ∙ inv
+  pub none_left : length odds ≡ 0 → ws ≡ words_in bs
+  none_left h = sym (append-nil ws) ∙ ap (λ r. ws ++ r) (go odds h) ∙ with_odd
+    where
+      go : (l : List ℕ) → length l ≡ 0 → [] ≡ further_word l
+      go [] h = refl
+      go (b ∷ l) h = absurd (omega arith)

@@ -1,6 +1,7 @@
 -- What a word says, by its layout.
-use Rattle.std.proofs.Common.{◌≡◌, ℕ, ◌+◌, ◌*◌, ◌/◌, ◌%◌, ◌^◌, ◌<◌, Bool, true, false, cond, eqb, ◌⊎◌, Some, None, Option, refl, ap, ◌∙◌, subst, inl, inr, ⊎_elim, arith}
+use Rattle.std.proofs.Common.{◌≡◌, ℕ, ◌+◌, ◌*◌, ◌/◌, ◌%◌, ◌^◌, ◌<◌, Bool, true, false, cond, eqb, ◌⊎◌, Some, None, Option, sym, refl, ap, ◌∙◌, subst, inl, inr, ⊎_elim, arith}
 use Rattle.std.proofs.lemmas.Bool.{eqb-true}
+use Rattle.std.proofs.lemmas.Option.{cond_some, none-some}
 use Rattle.std.proofs.lemmas.Nat.{shr_split, mod-pow-add, mod_below, div-mul-add, mod-mul-add}
 use Rattle.words.specs.declared.item.Item.{Item}
 use Rattle.words.specs.declared.item.Item.TheVariants.{Board, Given, Claim, Less, End}
@@ -8,22 +9,12 @@ use Rattle.words.specs.Layouts.{field, kind_of, entry_in, sign_in, clean, decode
 use Rattle.words.specs.Laws.{SaysByLayout, SaysNothing}
 
 -- which way a test went
-cond_some : (b : Bool) (x y : Option Item) (it : Item) → cond b x y ≡ Some it → ((b ≡ true) × (x ≡ Some it)) ⊎ (y ≡ Some it)
-cond_some true x y it h = inl (refl, h)
-cond_some false x y it h = inr h
-
-some_same : (it jt : Item) → Some it ≡ Some jt → it ≡ jt
-some_same it jt h = cc
-
-none_some : (it : Item) → None ≡ Some it → ⊥
-none_some it h = let z : ◌≡◌ {A = ℕ} 0 1 = cc in omega arith
+either_way : (b : Bool) (x y : Option Item) (it : Item) → cond b x y ≡ Some it → ((b ≡ true) × (x ≡ Some it)) ⊎ (y ≡ Some it)
+either_way true x y it h = inl (refl, h)
+either_way false x y it h = inr h
 
 clean_says : (zeros w : ℕ) (it jt : Item) → clean zeros w it ≡ Some jt → (w % 2 ^ zeros ≡ 0) × (it ≡ jt)
-clean_says zeros w it jt h =
-    ⊎_elim
-    (λ (p : (eqb (w % 2 ^ zeros) 0 ≡ true) × (Some it ≡ Some jt)). (eqb-true (w % 2 ^ zeros) 0 p.0, some_same it jt p.1))
-    (λ (e : None ≡ Some jt). absurd (none_some jt e))
-    (cond_some (eqb (w % 2 ^ zeros) 0) (Some it) None jt h)
+clean_says zeros w it jt h = let p = cond_some (eqb (w % 2 ^ zeros) 0) it jt h in (eqb-true (w % 2 ^ zeros) 0 p.0, p.1)
 
 -- a word is its item's word
 abbrev Tells : ℕ → Item → Type 0
@@ -59,8 +50,8 @@ says w it h =
     ⊎_elim (by 8 2 w _ it (of_given w)) (λ h₃.
     ⊎_elim (by 4 3 w _ it (of_sign w)) (λ h₅.
     ⊎_elim (by 8 5 w _ it (of_claim w)) (λ h₁₅.
-    ⊎_elim (by 28 15 w _ it (of_end w)) (λ (e : None ≡ Some it). absurd (none_some it e))
-    (cond_some _ _ _ it h₁₅)) (cond_some _ _ _ it h₅)) (cond_some _ _ _ it h₃)) (cond_some _ _ _ it h₂)) (cond_some _ _ _ it h)
+    ⊎_elim (by 28 15 w _ it (of_end w)) (λ (e : None ≡ Some it). absurd (none-some it e))
+    (either_way _ _ _ it h₁₅)) (either_way _ _ _ it h₅)) (either_way _ _ _ it h₃)) (either_way _ _ _ it h₂)) (either_way _ _ _ it h)
 
 -- quotient and rest of q * m + r
 quotient : (w q m r : ℕ) → r < m → w ≡ q * m + r → w / m ≡ q
@@ -118,10 +109,7 @@ word_decoded w it h = (says w it h).0
 
 -- a word that is read as nothing is no item's word, and the reverse
 pub says_nothing : (w : ℕ) → decoded w ≡ None → SaysNothing w
-says_nothing w e it f h =
-    let q = told w it h f in
-    let z : ◌≡◌ {A = ℕ} 0 1 = cc in
-    omega arith
+says_nothing w e it f h = none-some it (sym e ∙ told w it h f)
 
 pub nothing_said : (w : ℕ) → SaysNothing w → decoded w ≡ None
 nothing_said w n = go (decoded w) refl

@@ -1,4 +1,3 @@
 pub mod Layouting
 pub mod Byting
 pub mod ByKind
-pub mod Encoding

@@ -1,19 +1,18 @@
 ghost use Rattle.words.specs.Cells.{entry_key};
 
 use crate::entry::Entry;
-use roster::{Key, Record};
+use register::Record;
 
 impl Record for Entry {
+    // its cell
+    type Key = u16;
+
     ghost keyed = { entry_key };
 
     ghost empty = { record { cell = 0; value = 0 } };
 
-    // its cell
-    fn key(&self) -> Key {
-        Key {
-            first: self.cell,
-            second: 0,
-        }
+    fn key(&self) -> u16 {
+        self.cell
     }
 
     fn blank() -> Entry {

@@ -1,9 +1,11 @@
 ghost use Rattle.std.specs.Prelude.{◌≡◌, ◌+◌, ◌*◌, ◌^◌, ◌<◌, MatchOption};
+ghost use Rattle.words.specs.Kinds.{code_of};
 ghost use Rattle.words.specs.Layouts.{field, entry_in, clean, decoded};
 ghost use Rattle.words.specs.Laws.{SaysByLayout, Encoded};
 
 use crate::entry::Entry;
 use crate::item::Item;
+use crate::kind::Kind;
 use futoshiki::Sign;
 
 // A kind's unit, bit 28; how many cells, and how many puzzles, their bits tell apart.
@@ -13,20 +15,30 @@ const CELLS: u16 = 0x1000;
 
 const PUZZLES: u8 = 0x10;
 
-// Twelve bits of a word, from bit `low` on: a cell.
+// The bits of a word from bit `low` on, `size` of them. That `low` is a bit of a word stays a clause, here and below: it is a
+// number written out in each call.
+fn field(word: u32, low: u32, size: u32) -> u32
+    requires { (low < 32) × (size < 32) }
+    ensures value { result ≡ field word low size }
+    ensures fits { result < 2 ^ size }
+{
+    (word >> low) % (1 << size)
+}
+
+// A cell, from bit `low` on. A cast and no `try_from`, here and below: the field always fits, so there is no error to answer.
 fn cell(word: u32, low: u32) -> u16
     requires { low < 32 }
     ensures { result ≡ field word low 12 }
 {
-    ((word >> low) % 0x1000) as u16
+    field(word, low, 12) as u16
 }
 
-// Eight bits of a word, from bit `low` on: a value or a side.
+// A value or a side, from bit `low` on.
 fn octet(word: u32, low: u32) -> u8
     requires { low < 32 }
     ensures { result ≡ field word low 8 }
 {
-    ((word >> low) % 0x100) as u8
+    field(word, low, 8) as u8
 }
 
 // The cell and the value of a given or a claim.
@@ -44,60 +56,57 @@ fn if_clean(word: u32, zeros: u32, item: Item) -> Option<Item>
     requires { zeros < 32 }
     ensures { result ≡ clean zeros word item }
 {
-    if word % (1 << zeros) == 0 {
-        Some(item)
-    } else {
-        None
-    }
+    (field(word, 0, zeros) == 0).then_some(item)
 }
 
 /// What a word says, by its layout; nothing where its kind is unknown or a bit is set that must be 0.
+// An `Option` and no `TryFrom`, here and in `encode`: an error would say no more than `None` does.
+#[tactic(auto, unfolding(crate::specs::Layouts::decoded))]
 pub fn decode(word: u32) -> Option<Item>
     ensures answer { result ≡ decoded word }
     ensures layout { SaysByLayout word }
 {
-    match word >> 28 {
-        1 => if_clean(
+    match Kind::try_from(word >> 28).ok()? {
+        Kind::Board => if_clean(
             word,
             16,
-            Item::Board(((word >> 24) % 0x10) as u8, octet(word, 16)),
+            Item::Board(field(word, 24, 4) as u8, octet(word, 16)),
         ),
-        2 => if_clean(word, 8, Item::Given(entry(word))),
-        3 => {
+        Kind::Given => if_clean(word, 8, Item::Given(entry(word))),
+        Kind::Less => {
             let sign = Sign {
                 lesser: cell(word, 16),
                 greater: cell(word, 4),
             };
             if_clean(word, 4, Item::Less(sign))
         }
-        5 => if_clean(word, 8, Item::Claim(entry(word))),
-        15 => if_clean(word, 28, Item::End),
-        _ => None,
+        Kind::Claim => if_clean(word, 8, Item::Claim(entry(word))),
+        Kind::End => if_clean(word, 28, Item::End),
     }
 }
 
-// The word of a given or a claim, after its kind; none where the cell does not fit its bits.
-fn entry_word(kind: u32, e: Entry) -> Option<u32>
-    requires { kind < 16 }
-    ensures { MatchOption result (e.cell < 2 ^ 12 → ⊥) (λ w. (e.cell < 2 ^ 12) × (e.value < 2 ^ 8) × (w ≡ kind * 2 ^ 28 + e.cell * 2 ^ 16 + e.value * 2 ^ 8)) }
+// A cell, where its bits are enough for it.
+fn fitting(cell: u16) -> Option<u32>
+    ensures { MatchOption result (cell < 2 ^ 12 → ⊥) (λ bits. (cell < 2 ^ 12) × (bits ≡ cell)) }
 {
-    if e.cell >= CELLS {
-        return None;
-    }
-    Some(kind * KIND + u32::from(e.cell) * 0x1_0000 + u32::from(e.value) * 0x100)
+    (cell < CELLS).then_some(u32::from(cell))
+}
+
+// The word of a given or a claim, by its kind; none where the cell does not fit its bits.
+fn entry_word(kind: Kind, e: Entry) -> Option<u32>
+    ensures { MatchOption result (e.cell < 2 ^ 12 → ⊥) (λ w. (e.cell < 2 ^ 12) × (e.value < 2 ^ 8) × (w ≡ code_of kind * 2 ^ 28 + e.cell * 2 ^ 16 + e.value * 2 ^ 8)) }
+{
+    let cell = fitting(e.cell)?;
+    Some(u32::from(kind) * KIND + cell * 0x1_0000 + u32::from(e.value) * 0x100)
 }
 
 // The word of a sign; none where a cell does not fit its bits.
 fn sign_word(s: Sign) -> Option<u32>
     ensures { MatchOption result ((s.lesser < 2 ^ 12) × (s.greater < 2 ^ 12) → ⊥) (λ w. (s.lesser < 2 ^ 12) × (s.greater < 2 ^ 12) × (w ≡ 3 * 2 ^ 28 + s.lesser * 2 ^ 16 + s.greater * 2 ^ 4)) }
 {
-    if s.lesser >= CELLS {
-        return None;
-    }
-    if s.greater >= CELLS {
-        return None;
-    }
-    Some(3 * KIND + u32::from(s.lesser) * 0x1_0000 + u32::from(s.greater) * 0x10)
+    let lesser = fitting(s.lesser)?;
+    let greater = fitting(s.greater)?;
+    Some(u32::from(Kind::Less) * KIND + lesser * 0x1_0000 + greater * 0x10)
 }
 
 // The word of a board; none where the puzzle does not fit its bits.
@@ -107,18 +116,21 @@ fn board_word(puzzle: u8, side: u8) -> Option<u32>
     if puzzle >= PUZZLES {
         return None;
     }
-    Some(KIND + u32::from(puzzle) * 0x100_0000 + u32::from(side) * 0x1_0000)
+    Some(
+        u32::from(Kind::Board) * KIND + u32::from(puzzle) * 0x100_0000 + u32::from(side) * 0x1_0000,
+    )
 }
 
 /// The word that says an item; none where a field has too few bits for it.
+#[tactic(auto, unfolding(crate::specs::Layouts::item_word))]
 pub fn encode(item: Item) -> Option<u32>
     ensures { Encoded item result }
 {
     match item {
         Item::Board(puzzle, side) => board_word(puzzle, side),
-        Item::Given(e) => entry_word(2, e),
-        Item::Claim(e) => entry_word(5, e),
+        Item::Given(e) => entry_word(Kind::Given, e),
+        Item::Claim(e) => entry_word(Kind::Claim, e),
         Item::Less(s) => sign_word(s),
-        Item::End => Some(15 * KIND),
+        Item::End => Some(u32::from(Kind::End) * KIND),
     }
 }

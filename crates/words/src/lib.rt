@@ -5,9 +5,10 @@ mod bytes;
 mod entry;
 mod item;
 mod keyed;
+mod kind;
 mod layout;
 
 pub use bytes::{bytes_of, words_of};
 pub use entry::Entry;
-pub use item::Item;
+pub use item::{FUTOSHIKI, Item};
 pub use layout::{decode, encode};

@@ -1,10 +1,10 @@
-use Rattle.std.proofs.Common.{◌≡◌, ◌+◌, get_or, Err, sym, ◌∙◌, arith, rules}
-use Rattle.std.proofs.lemmas.List.{at_drop_all}
+use Rattle.std.proofs.Common.{◌≡◌, ◌<◌, ◌≤◌, Err, sym, arith, rules, tests}
+use Rattle.std.proofs.lemmas.Iterator.{IsFirst-from_position, YieldsList-from_slice}
+use Rattle.std.proofs.lemmas.Option.{MatchOption-at_some, MatchOption-at_none}
 use Rattle.cnf.specs.declared.fault.Fault.TheVariants.{ClaimForm}
 use Rattle.cnf.specs.Faults.{Answer}
-use Rattle.cnf.specs.Checks.{is_bit, bytes_fit, form_answer}
-use Rattle.cnf.proofs.Firsts.{each_stops, each_goes}
-use Rattle.cnf.proofs.Forms.{form_sized, form_tells, bit_from, no_bit}
+use Rattle.cnf.specs.Checks.{form_answer}
+use Rattle.cnf.proofs.Forms.{form_fits, form_stops, form_tells}
 use Rattle.cnf.proofs.form.check_form.Goals as goal
 
 pub returns-then-n-gt1024 : goal.returns-then-n-gt1024
@@ -14,37 +14,18 @@ returns-then-n-gt1024 g c =
     let e : ◌≡◌ {A = Answer} (Err (ClaimForm 0)) (form_answer n bs) = search rules in
     record { answer = e; first = form_tells n bs _ e }
 
-pub returns-then-claim-n : goal.returns-then-claim-n
-returns-then-claim-n g c =
+pub returns-in-Some : goal.returns-in-Some
+returns-in-Some g c =
     let n = g.S.Source.vars c.args.source.now in
     let bs = c.args.claim.now in
-    let e : ◌≡◌ {A = Answer} (Err (ClaimForm 0)) (form_answer n bs) = search rules in
+    let first = MatchOption-at_some _ _ _ c.in-Some.is (IsFirst-from_position _ _ _ (λ b. 1 < b) (λ b. b ≤ 1) c.position.ensures.ran (YieldsList-from_slice _ c.iter.ensures.rest) (λ x q k. search (rules, tests)) (λ x q k. search (rules, tests))) in
+    let e = sym (form_stops n bs (omega arith) (omega arith) _ first) in
     record { answer = e; first = form_tells n bs _ e }
 
-pub returns-then-b-gt1 : goal.returns-then-b-gt1
-returns-then-b-gt1 g c =
+pub returns-in-None : goal.returns-in-None
+returns-in-None g c =
     let n = g.S.Source.vars c.args.source.now in
     let bs = c.args.claim.now in
-    let i = c.loop-i.i in
-    let e =
-    sym (each_stops is_bit ClaimForm bs i 0 (omega arith) (no_bit (get_or bs i 0) (omega arith)))
-    ∙ c.loop-i.invariant
-    ∙ sym (form_sized n bs (omega arith) (omega arith)) in
-    record { answer = e; first = form_tells n bs _ e }
-
-pub loop-i-preserved : goal.loop-i-preserved
-loop-i-preserved g c =
-    let bs = c.args.claim.now in
-    let i = c.loop-i.i in
-    sym (each_goes is_bit ClaimForm bs i 0 (omega arith) (bit_from (get_or bs i 0) (omega arith))) ∙ c.loop-i.invariant
-
-pub returns : goal.returns
-returns g c =
-    let n = g.S.Source.vars c.args.source.now in
-    let bs = c.args.claim.now in
-    let i = c.loop-i.i in
-    let e =
-    sym (at_drop_all (bytes_fit (i + 1)) bs i (omega arith))
-    ∙ c.loop-i.invariant
-    ∙ sym (form_sized n bs (omega arith) (omega arith)) in
+    let first = MatchOption-at_none _ _ c.in-None.is (IsFirst-from_position _ _ _ (λ b. 1 < b) (λ b. b ≤ 1) c.position.ensures.ran (YieldsList-from_slice _ c.iter.ensures.rest) (λ x q k. search (rules, tests)) (λ x q k. search (rules, tests))) in
+    let e = sym (form_fits n bs (omega arith) (omega arith) first) in
     record { answer = e; first = form_tells n bs _ e }

@@ -1,7 +1,6 @@
-use Rattle.std.proofs.Common.{◌≡◌, ℕ, ◌≤◌, length, get_or}
 use Rattle.cnf.specs.Told.{clause_at}
 use Rattle.cnf.proofs.Stamps.{Walk}
 use Rattle.cnf.proofs.lawful.clause_proper.Given as goal
 
 abbrev pub invariant-loop-j : goal.invariant-loop-j
-invariant-loop-j g l = (length l.seen ≡ 1025) × Walk l.n l.k.0 (clause_at (g.S.Source.listing l.source) l.k.0) l.j l.seen × ((v : ℕ) → get_or l.seen v 0 ≤ l.k.0)
+invariant-loop-j g l = Walk l.n l.k.0 (clause_at (g.S.Source.listing l.source) l.k.0) l.j l.seen

@@ -1,9 +1,8 @@
-use Rattle.std.proofs.Common.{sym, arith}
-use Rattle.cnf.proofs.Truths.{value_in, value_past}
+use Rattle.std.proofs.Common.{◌≡◌, ◌-◌, eqb, get_or, sym, ◌∙◌, rules}
+use Rattle.cnf.proofs.Truths.{value_at}
 use Rattle.cnf.proofs.model.value.Goals as goal
 
-pub returns-then-i-claim : goal.returns-then-i-claim
-returns-then-i-claim c = sym (value_past c.args.claim.now c.args.v c.if-i-claim.true)
-
-pub returns : goal.returns
-returns c = sym (value_in c.args.claim.now c.args.v (omega arith) c.if-i-claim.false)
+pub returns-then-v-gt0 : goal.returns-then-v-gt0
+returns-then-v-gt0 c =
+    let e : c.is_some_and.result ≡ eqb (get_or c.args.claim.now (c.args.v - 1) 0) 1 = search rules in
+    e ∙ sym (value_at c.args.claim.now c.args.v c.if-v-gt0.true)

@@ -15,28 +15,27 @@ returns-in_default c = record {
 pub returns-then-place-end : goal.returns-then-place-end
 returns-then-place-end c =
     let bytes = c.args.text.now in
-    let N = c.in-Some.side in
+    let N = c.in-Some.grid.side in
     let h = c.in-Some.ensures in
     let p = c.unfit_place-place.ensures.is in
     let e = c.places-end.ensures.is in
     record {
       answer = sided_by bytes c.line_length-characters.result N c.line_length-characters.ensures.is h.0 h.1
-          ∙ told_at bytes N c.unfit_place-place.result c.width-long.result p c.width-long.ensures
+          ∙ told_at bytes N c.unfit_place-place.result c.spot_of-line.result.0 c.spot_of-line.result.1 p c.spot_of-line.ensures.line c.spot_of-line.ensures.column
           (elim c.then-place-end.branch [ then-place-end-via-then-place-end w ↦ unfit_answer bytes N (let t = w.if-place-end.true in omega arith) | then-place-end-via-else-place-end+then-text-end w ↦ longer_answer bytes N (let t = w.if-text-end.true in omega arith) ]);
       stands = drawing_stands bytes;
     }
 
-pub all_words-requires : goal.all_words-requires
-all_words-requires c =
-    let h = c.in-Some.ensures in
+pub invariant_of-all_words : goal.invariant_of-all_words
+invariant_of-all_words c =
     let p = c.unfit_place-place.ensures.is in
     let e = c.places-end.ensures.is in
-    well_drawn c.args.text.now c.in-Some.side h.2 h.3 (omega arith) (omega arith)
+    record { drawn = well_drawn c.args.text.now c.in-Some.grid.side c.in-Some.ensures.2 c.in-Some.grid.most (omega arith) (omega arith) }
 
 pub returns-in_err-all_words : goal.returns-in_err-all_words
 returns-in_err-all_words c =
     let bytes = c.args.text.now in
-    let N = c.in-Some.side in
+    let N = c.in-Some.grid.side in
     let h = c.in-Some.ensures in
     let p = c.unfit_place-place.ensures.is in
     let e = c.places-end.ensures.is in
@@ -48,7 +47,7 @@ returns-in_err-all_words c =
 pub returns : goal.returns
 returns c =
     let bytes = c.args.text.now in
-    let N = c.in-Some.side in
+    let N = c.in-Some.grid.side in
     let h = c.in-Some.ensures in
     let p = c.unfit_place-place.ensures.is in
     let e = c.places-end.ensures.is in

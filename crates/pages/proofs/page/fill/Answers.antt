@@ -13,15 +13,6 @@ offset_bounds-pages-p c = let b = turn_below c.args.pages.now c.loop-i.i c.args.
 pub bounds-pages-p : goal.bounds-pages-p
 bounds-pages-p c = turn_below c.args.pages.now c.loop-i.i c.args.need c.args.head c.loop-i.p 1024 c.loop-i.invariant.1 c.loop-i-test.true c.requires.inside
 
-pub overflow_cast-page-in-loop-i : goal.overflow_cast-page-in-loop-i
-overflow_cast-page-in-loop-i c = let b = turn_below c.args.pages.now c.loop-i.i c.args.need c.args.head c.loop-i.p 1024 c.loop-i.invariant.1 c.loop-i-test.true c.requires.inside in search rules
-
-pub offset_bounds-pages-p-in-loop-i : goal.offset_bounds-pages-p-in-loop-i
-offset_bounds-pages-p-in-loop-i c = let b = turn_below c.args.pages.now c.loop-i.i c.args.need c.args.head c.loop-i.p 1024 c.loop-i.invariant.1 c.loop-i-test.true c.requires.inside in search rules
-
-pub bounds-pages-p-in-loop-i : goal.bounds-pages-p-in-loop-i
-bounds-pages-p-in-loop-i c = turn_below c.args.pages.now c.loop-i.i c.args.need c.args.head c.loop-i.p 1024 c.loop-i.invariant.1 c.loop-i-test.true c.requires.inside
-
 pub loop-i-preserved : goal.loop-i-preserved
 loop-i-preserved c =
     let b = turn_below c.args.pages.now c.loop-i.i c.args.need c.args.head c.loop-i.p 1024 c.loop-i.invariant.1 c.loop-i-test.true c.requires.inside in
@@ -31,7 +22,7 @@ loop-i-preserved c =
     let n = c.args.need in
     let i = c.loop-i.i in
     let p = c.loop-i.p in
-    let part = c.cut-part.result in
+    let part = c.cut-page.result in
     let ls = c.args.literals.now in
     let inv = c.loop-i.invariant in
     let room : p < length qs = omega arith in
@@ -43,5 +34,5 @@ loop-i-preserved c =
       links_still ps qs h n i p part ls inv.1 lt once room inv.2,
       full_set qs p _ 1024 room eight inv.3,
       others_still ps qs h n i p part ls inv.1 lt once room inv.4,
-      holds_more ps qs h n i p part ls inv.1 lt once room inv.5 c.cut-part.ensures,
+      holds_more ps qs h n i p part ls inv.1 lt once room inv.5 c.cut-page.ensures,
     )

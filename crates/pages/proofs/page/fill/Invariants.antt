@@ -1,5 +1,6 @@
 use Rattle.std.proofs.Common.{◌≡◌, ℕ, ◌*◌, ◌/◌, ◌%◌, ◌<◌, length, get_or}
-use Rattle.pages.specs.Chained.{no_literal, no_page, page_after, page_chain, times_in, FullPages}
+use Rattle.cnf.specs.Tabled.{no_literal}
+use Rattle.pages.specs.Chained.{no_page, page_after, page_chain, times_in, FullPages}
 use Rattle.pages.specs.Chains.{SameLinks}
 use Rattle.pages.proofs.page.fill.Given as goal
 

@@ -1,12 +1,14 @@
-use Rattle.std.proofs.Common.{sym, ◌∙◌}
-use Rattle.puzzle.proofs.Bytewise.{claim_here, claim_later, claim_nowhere}
+use Rattle.std.proofs.Common.{◌≡◌, eqb, Bor, MatchOption, ap, ◌∙◌, rules}
+use Rattle.std.proofs.lemmas.Iterator.{YieldsList-from_slice}
+use Rattle.std.proofs.lemmas.Iterator.Search.{find_from_yields_List}
+use Rattle.words.specs.declared.entry.Entry.{Entry}
+use Rattle.puzzle.proofs.Bytewise.{value_in, claim_found, value_found}
 use Rattle.puzzle.proofs.claim.claimed_value.Goals as goal
-
-pub returns-then-e-cell : goal.returns-then-e-cell
-returns-then-e-cell c = sym (sym c.loop-e.invariant ∙ claim_here c.args.claims.now c.args.cell c.loop-e.e-index (record { cell = 0; value = 0 }) c.loop-e-test.true c.if-e-cell.true)
-
-pub loop-e-preserved : goal.loop-e-preserved
-loop-e-preserved c = sym (claim_later c.args.claims.now c.args.cell c.loop-e.e-index (record { cell = 0; value = 0 }) c.loop-e-test.true c.if-e-cell.false) ∙ c.loop-e.invariant
+use borrow.Author.Tests.{tests}
 
 pub returns : goal.returns
-returns c = sym (sym c.loop-e.invariant ∙ claim_nowhere c.args.claims.now c.args.cell c.loop-e.e-index c.loop-e-test.false)
+returns c =
+    let es = c.args.claims.now in
+    let found = find_from_yields_List (λ (e : Entry). eqb e.cell c.args.cell) _ _ c.find.result c.find.ensures.ran (YieldsList-from_slice es cc) (λ x b q k. search (rules, tests)) in
+    let held : MatchOption c.find.result (c.map_or.result ≡ 0) (λ (r : Bor Entry). c.map_or.result ≡ r.now.value) = search rules in
+    value_found c.find.result c.map_or.result held ∙ ap value_in found ∙ claim_found es c.args.cell

@@ -1,19 +1,12 @@
-use Rattle.std.proofs.Common.{◌+◌, ◌-◌, ◌*◌, ◌≤◌, arith, rules}
+use Rattle.std.proofs.Common.{◌≡◌, ◌+◌, ◌-◌, ◌*◌, w32, to_z, ap, ◌∙◌, arith}
+use Rattle.std.proofs.lemmas.Int.{ints}
 use Rattle.std.proofs.lemmas.Nat.{mul-le}
-use Rattle.futoshiki.proofs.Stepping.{asserted_number}
 use Rattle.puzzle.proofs.posing.literal.Goals as goal
-
-pub overflow_cast-result-3 : goal.overflow_cast-result-3
-overflow_cast-result-3 c =
-    let cells = mul-le c.args.side c.args.side 9 9 c.requires.0 c.requires.0 in
-    let few = mul-le (c.args.g.cell - 1) c.args.side 80 9 (omega (arith, c.requires.1.0.1)) c.requires.0 in
-    let v = c.requires.1.1.1 in
-    let n : (c.args.g.cell - 1) * c.args.side + c.args.g.value ≤ 729 = omega (arith, c.requires.0) in
-    search rules
 
 pub returns : goal.returns
 returns c =
-    let cells = mul-le c.args.side c.args.side 9 9 c.requires.0 c.requires.0 in
-    let few = mul-le (c.args.g.cell - 1) c.args.side 80 9 (omega (arith, c.requires.1.0.1)) c.requires.0 in
-    let v = c.requires.1.1.1 in
-    asserted_number ((c.args.g.cell - 1) * c.args.side + c.args.g.value) (omega (arith, c.requires.0))
+    let g = c.args.g in
+    let few = mul-le (g.cell - 1) c.args.side.n 65535 9 (omega arith) c.args.side.most in
+    let n = (g.cell - 1) * c.args.side.n + g.value in
+    let number : c.saturating_sub.result * c.number.result + c.from-2.result ≡ n = grind arith in
+    ap (to_z w32) number ∙ omega (arith, ints)

@@ -16,6 +16,4 @@ invariant_of-result c =
       none = λ k l. ap (λ es. owner_count ps 0 1024 es k) e ∙ fresh_none ps 1024 c.all_pages-pages.ensures.linked k l;
       full = c.all_pages-pages.ensures.full;
       order = λ i j l h. absurd (omega arith);
-      fitting = λ k h. absurd (omega arith);
-      short = λ k h. absurd (omega arith);
     }

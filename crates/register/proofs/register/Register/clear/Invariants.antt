@@ -1,9 +1,5 @@
-use Rattle.std.proofs.Common.{◌≡◌, length}
+use Rattle.std.proofs.Common.{◌≡◌, take, replicate}
 use Rattle.register.proofs.register.Register.clear.Given as goal
 
-abbrev pub invariant-loop-self : goal.invariant-loop-self
-invariant-loop-self g l =
-    (length l.self.slots.now ≡ length l.initial.self.slots.now) × (l.self.blank ≡ l.initial.self.blank) × (l.self.slots.ghost_name ≡ l.initial.self.slots.ghost_name)
-
-abbrev pub decreases-loop-self : goal.decreases-loop-self
-decreases-loop-self g l = l.self.used
+abbrev pub invariant-loop-slot : goal.invariant-loop-slot
+invariant-loop-slot g l = take l.slot-index l.slot-items ≡ replicate l.slot-index l.empty

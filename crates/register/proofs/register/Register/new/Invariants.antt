@@ -1,5 +1,5 @@
 use Rattle.std.proofs.Common.{◌≡◌, take, replicate}
 use Rattle.register.proofs.register.Register.new.Given as goal
 
-abbrev pub invariant-loop-i : goal.invariant-loop-i
-invariant-loop-i g l = take l.i l.slots ≡ replicate l.i l.blank
+abbrev pub invariant-loop-slot : goal.invariant-loop-slot
+invariant-loop-slot g l = take l.slot-index l.slots ≡ replicate l.slot-index l.blank

@@ -1,3 +1,0 @@
-pub mod Found
-pub mod Blanks
-pub mod Once

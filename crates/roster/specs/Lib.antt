@@ -1,3 +1,0 @@
--- Records by key, and what a register holds and answers.
-pub mod Keys
-pub mod Held

@@ -29,8 +29,12 @@ walk_start n k c seen size h = record {
   rest = refl;
 }
 
+-- a literal that names one of 1 to n has its variable there
+pub named_upto : (n v : ℕ) (l : ℤ) (r : Bool) → v ≡ variable_of l → r ≡ names_one n l → r ≡ true → v ≤ n
+named_upto n v l r at told e = let u = leb-true (variable_of l) n (and_parts (leb 1 (variable_of l)) (leb (variable_of l) n) (sym told ∙ e)).1 in omega arith
+
 -- a stamp k more leaves every stamp at most k
-stamps_upto : (seen : List ℕ) (i k : ℕ) → i < length seen → ((v : ℕ) → get_or seen v 0 ≤ k) → (v : ℕ) → get_or (set seen i k) v 0 ≤ k
+pub stamps_upto : (seen : List ℕ) (i k : ℕ) → i < length seen → ((v : ℕ) → get_or seen v 0 ≤ k) → (v : ℕ) → get_or (set seen i k) v 0 ≤ k
 stamps_upto seen i k h up v = let u = up v in grind (arith, common_steps)
 
 module _ (n k : ℕ) (c : Clause) (j : ℕ) (seen : List ℕ) (w : Walk n k c j seen) where
@@ -69,7 +73,7 @@ module _ (n k : ℕ) (c : Clause) (j : ℕ) (seen : List ℕ) (w : Walk n k c j 
 
       pub walk_more : n ≤ 1024 → (r : Bool) → r ≡ names_one n l → r ≡ true → (get_or seen v 0 ≡ k → ⊥) → Walk n k c (j + 1) (set seen v k)
       walk_more few r told e ne =
-          let u = leb-true (variable_of l) n (and_parts (leb 1 (variable_of l)) (leb (variable_of l) n) (sym told ∙ e)).1 in
+          let u = named_upto n v l r at told e in
           let in' : v < length seen = omega (arith, w.size) in
           record {
             size = length-set seen v k ∙ w.size;

@@ -1,6 +1,6 @@
 -- Truth under a claim's bytes; a clause and a listing as they are told, place by place.
 use Rattle.std.proofs.Common.{◌≡◌, ℕ, zero, suc, ◌+◌, ◌-◌, ◌<◌, ◌≤◌, true, false, eqb, List, [], ◌∷◌, ◌++◌, map, length, get_or, take, pos, Err, sym, refl, ap, ◌∙◌, ⊎_elim, arith}
-use Rattle.std.proofs.lemmas.List.{length-append, length-map, length-take, get_or-map, get_or-take, get_or_append_left, get_or_at}
+use Rattle.std.proofs.lemmas.List.{length-append, length-map, length-take, get_or-map, get_or-take, get_or_past, get_or_append_left, get_or_at}
 use Rattle.std.proofs.Math.ListN.{get_or-map as map_at}
 use Rattle.std.proofs.lemmas.Bool.Decides.{nat_tests}
 use Rattle.std.proofs.lemmas.Bool.{or_left, or_right, or_from, cases_lt}
@@ -10,7 +10,7 @@ use Rattle.cnf.specs.declared.fault.Fault.TheVariants.{ClaimFalse}
 use Rattle.cnf.specs.Faults.{Answer, accepted}
 use Rattle.cnf.specs.Checks.{assignment_of, clauses_hold, told_clause, told_listing}
 use Rattle.cnf.specs.Laws.{TellsFirst}
-use Rattle.cnf.proofs.Asked.{clause_past, clause_in, literal_past, literal_in}
+use Rattle.cnf.proofs.Asked.{clause_past, clause_in, literal_past, literal_in, literal_none}
 use Rattle.cnf.proofs.Firsts.{first_fails, none_fails, tells_by}
 use Rattle.cnf.proofs.Short.{short_told, few_told, told_lawful_listing}
 
@@ -30,8 +30,8 @@ module _ (c : Clause) where
       (λ h. ap length (short_told c h) ∙ omega arith)
       (cases_lt 1024 (length c))
 
-  pub literal_told : (j : ℕ) → 0 < j → j ≤ capped_length c → literal_at j c ≡ get_or (told_clause c) (j - 1) (pos 0)
-  literal_told j p l =
+  told_literal : (j : ℕ) → 0 < j → j ≤ capped_length c → literal_at j c ≡ get_or (told_clause c) (j - 1) (pos 0)
+  told_literal j p l =
       ⊎_elim
       (λ h.
       let t = length-take 1024 c in
@@ -41,6 +41,16 @@ module _ (c : Clause) where
       (cases_lt (j - 1) 1024))
       (λ h. literal_in c j p (omega arith) ∙ sym (ap (λ x. get_or x (j - 1) (pos 0)) (short_told c h)))
       (cases_lt 1024 (length c))
+
+  -- and past all that is told it is 0
+  pub literal_told : (j : ℕ) → 0 < j → literal_at j c ≡ get_or (told_clause c) (j - 1) (pos 0)
+  literal_told j p =
+      ⊎_elim
+      (λ past.
+      ⊎_elim (λ far. literal_past c j far) (λ near. literal_none c j (omega arith)) (cases_lt 1024 j)
+      ∙ sym (get_or_past (told_clause c) (j - 1) (pos 0) (omega (arith, length_told))))
+      (λ l. told_literal j p l)
+      (cases_lt (capped_length c) j)
 
 -- a listing as it is told
 module _ (cs : List Clause) where
@@ -94,7 +104,7 @@ module _ (a : Assignment) where
     pub true_at : 0 < j → j ≤ capped_length c → literal_true a (literal_at j c) ≡ true → clause_true a (told_clause c) ≡ true
     true_at p l e =
         one_true (told_clause c) (j - 1) (omega (arith, length_told c))
-        (ap (literal_true a) (sym (literal_told c j p l)) ∙ e)
+        (ap (literal_true a) (sym (literal_told c j p)) ∙ e)
 
     -- the literals before place j are all that are told
     pub false_before : capped_length c < j → ((i : ℕ) → i < j → 0 < i → literal_true a (literal_at i c) ≡ false) → clause_true a (told_clause c) ≡ false
@@ -104,7 +114,7 @@ module _ (a : Assignment) where
         (λ i in'.
         let e : i + 1 - 1 ≡ i = omega arith in
         ap (λ k. literal_true a (get_or (told_clause c) k (pos 0))) (sym e)
-        ∙ ap (literal_true a) (sym (literal_told c (i + 1) (omega arith) (omega arith)))
+        ∙ ap (literal_true a) (sym (literal_told c (i + 1) (omega arith)))
         ∙ h (i + 1) (omega arith) (omega arith))
 
 -- the clauses before clause k are true as they are told

@@ -15,8 +15,8 @@ pub fn check_form<S: Source>(source: &S, claim: &[u8]) -> Result<(), Fault>
     if n > 1024 || claim.len() != n as usize {
         return Err(Fault::ClaimForm(0));
     }
-    match claim.iter().position(|b| *b > 1) {
-        Some(i) => Err(Fault::ClaimForm(i as u32 + 1)),
-        None => Ok(()),
+    if let Some(i) = claim.iter().position(|b| *b > 1) {
+        return Err(Fault::ClaimForm(i as u32 + 1));
     }
+    Ok(())
 }

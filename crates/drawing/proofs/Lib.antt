@@ -12,3 +12,4 @@ pub mod Finding
 pub mod Returning
 pub mod Sampling
 pub mod Showing
+pub mod Lines

@@ -1,5 +1,5 @@
-ghost use Rattle.std.specs.Prelude.{◌≡◌, ◌≤◌, slice_index};
-ghost use Rattle.drawing.specs.Drawn.{first_line, frame_fits, row_fits, fits_place, first_unfit};
+ghost use Rattle.std.specs.Prelude.{◌≡◌, ◌-◌, ◌≤◌, slice_index};
+ghost use Rattle.drawing.specs.Drawn.{first_line, frame_fits, row_fits, byte_fits, first_unfit};
 
 use crate::grid::Grid;
 
@@ -64,11 +64,10 @@ impl Drawing<'_> {
         self.text.get(k).copied().unwrap_or(0)
     }
 
-    // Whether the byte at a place may stand there.
-    fn stands(&self, k: usize) -> bool
-        ensures { result ≡ fits_place self.now.grid.side self.now.text.now k }
+    // Whether the byte at a place may stand in a line and a column.
+    fn stands(&self, k: usize, line: usize, column: usize) -> bool
+        ensures { result ≡ byte_fits self.now.grid.side line column (slice_index self.now.text.now k) (slice_index self.now.text.now (k - 2)) }
     {
-        let (line, column) = self.grid.spot_of(k);
         let byte = self.byte_at(k);
         if column == 4 * self.grid.side + 1 {
             byte == b'\n'
@@ -85,7 +84,18 @@ impl Drawing<'_> {
         ensures is { result ≡ first_unfit self.now.grid.side self.now.text.now }
         ensures most { result ≤ 722 }
     {
-        let end = self.grid.places();
-        (0..end).find(|k| !self.stands(*k)).unwrap_or(end)
+        let width = self.grid.width();
+        // line by line, so that no place is divided by the width to know its line and column
+        for line in 0..2 * self.grid.side + 1 {
+            let start = line * width;
+            let unfit = (start..start + width).find(|k| {
+                let column = k.saturating_sub(start);
+                !self.stands(*k, line, column)
+            });
+            if let Some(k) = unfit {
+                return k;
+            }
+        }
+        self.grid.places()
     }
 }

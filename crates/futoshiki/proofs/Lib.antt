@@ -4,3 +4,4 @@ pub mod Places
 pub mod Kept
 pub mod Stepping
 pub mod Growing
+pub mod Pairs

@@ -41,7 +41,7 @@ pub joined_up_more : {A : Type 0} (g : ℕ → List A) (n : ℕ) → flat_map g 
 joined_up_more g n = joined_longer g 1 n 1 ∙ ap (λ xs. flat_map g (up_to n) ++ xs) (append-nil (g (1 + n)) ∙ ap g (omega arith))
 
 -- two ways to count through one list
-same_along : {A : Type 0} (f h : ℕ → A) (a b n : ℕ) → ((k : ℕ) → k < n → f (a + k) ≡ h (b + k)) → map f (range_with_len a n) ≡ map h (range_with_len b n)
+pub same_along : {A : Type 0} (f h : ℕ → A) (a b n : ℕ) → ((k : ℕ) → k < n → f (a + k) ≡ h (b + k)) → map f (range_with_len a n) ≡ map h (range_with_len b n)
 same_along f h a b zero e = refl
 same_along f h a b (suc n) e =
     let p : a + 0 ≡ a = omega arith in
@@ -118,21 +118,21 @@ module _ (N : ℕ) where
       ∙ sym (map-map pos (variable_at N (i + 1)) (up_to N))
 
   -- no two of the variables of a cell, of a row's cells at one value, of a column's cells at one value
-  cell_stepped : (r c : ℕ) → 1 ≤ c → no_two_stepped ((r - 1) * (N * N) + (c - 1) * N + 1) 1 N ≡ no_two_values N (cell_at N r c)
+  pub cell_stepped : (r c : ℕ) → 1 ≤ c → no_two_stepped ((r - 1) * (N * N) + (c - 1) * N + 1) 1 N ≡ no_two_values N (cell_at N r c)
   cell_stepped r c h =
       stepped_pairs (variable_at N (cell_at N r c)) ((r - 1) * (N * N) + (c - 1) * N + 1) 1 N
       (λ j l.
       let f : cell_at N r c - 1 ≡ (r - 1) * N + (c - 1) = omega arith in
       omega (arith, ap (λ k. k * N) f, add-mul ((r - 1) * N) (c - 1) N, mul_assoc (r - 1) N N, mul-one (j - 1)))
 
-  row_stepped : (r v : ℕ) → 1 ≤ v → no_two_stepped ((r - 1) * (N * N) + (v - 1) * 1 + 1) N N ≡ once_in_row N r v
+  pub row_stepped : (r v : ℕ) → 1 ≤ v → no_two_stepped ((r - 1) * (N * N) + (v - 1) * 1 + 1) N N ≡ once_in_row N r v
   row_stepped r v h =
       stepped_pairs (λ c. variable_at N (cell_at N r c) v) ((r - 1) * (N * N) + (v - 1) * 1 + 1) N N
       (λ j l.
       let f : cell_at N r j - 1 ≡ (r - 1) * N + (j - 1) = omega arith in
       omega (arith, ap (λ k. k * N) f, add-mul ((r - 1) * N) (j - 1) N, mul_assoc (r - 1) N N, mul-one (v - 1)))
 
-  column_stepped : (c v : ℕ) → 1 ≤ c → 1 ≤ v → no_two_stepped ((c - 1) * N + (v - 1) * 1 + 1) (N * N) N ≡ once_in_column N c v
+  pub column_stepped : (c v : ℕ) → 1 ≤ c → 1 ≤ v → no_two_stepped ((c - 1) * N + (v - 1) * 1 + 1) (N * N) N ≡ once_in_column N c v
   column_stepped c v h l =
       stepped_pairs (λ r. variable_at N (cell_at N r c) v) ((c - 1) * N + (v - 1) * 1 + 1) (N * N) N
       (λ j m.

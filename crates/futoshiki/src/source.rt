@@ -7,6 +7,9 @@ use crate::sign::Sign;
 use cnf::{ClauseId, Literal, Source};
 use std::alloc::{AllocError, Global};
 
+// Room for the literals of the first clause, whatever the side is: a power of two, which the room that doubles stays.
+const ROOM: usize = 16;
+
 /// The clauses of a Futoshiki, listed once into a table, so that a clause is read without arithmetic.
 #[derive(Drop)]
 pub struct Futoshiki {
@@ -19,13 +22,14 @@ impl Futoshiki {
     pub fn new(heap: Global, side: u32, signs: &[Sign]) -> Result<Futoshiki, AllocError>
         ensures { IfOk result (λ s. TellsBoard side signs.now s) }
     {
-        let mut clauses = Draft::new(heap)?;
         let Some(side) = kept_side(side, signs) else {
+            let clauses = Draft::new(heap, 0)?;
             return Ok(Futoshiki {
                 variables: 0,
                 clauses,
             });
         };
+        let mut clauses = Draft::new(heap, ROOM)?;
         clauses.five_groups(side, signs)?;
         Ok(Futoshiki {
             variables: side.variables(),

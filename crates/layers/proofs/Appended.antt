@@ -37,12 +37,12 @@ module _ (cs ds : List Clause) (k m : ℕ) (is : m ≡ told_clauses cs) where
 pub ruleset appended = (told_append, clause_below, clause_above)
 
 -- the clauses of both are true when those of each are
-true_append : (a : Assignment) (cs ds : List Clause) → all_true a (cs ++ ds) ≡ (all_true a cs && all_true a ds)
+pub true_append : (a : Assignment) (cs ds : List Clause) → all_true a (cs ++ ds) ≡ (all_true a cs && all_true a ds)
 true_append a [] ds = refl
 true_append a (c ∷ cs) ds = ap (λ b. clause_true a c && b) (true_append a cs ds) ∙ sym (and_assoc (clause_true a c) (all_true a cs) (all_true a ds))
 
 -- and proper when those of each are
-proper_append : (n : ℕ) (cs ds : List Clause) → all_proper n (cs ++ ds) ≡ (all_proper n cs && all_proper n ds)
+pub proper_append : (n : ℕ) (cs ds : List Clause) → all_proper n (cs ++ ds) ≡ (all_proper n cs && all_proper n ds)
 proper_append n [] ds = refl
 proper_append n (c ∷ cs) ds = ap (λ b. proper_clause n c && b) (proper_append n cs ds) ∙ sym (and_assoc (proper_clause n c) (all_proper n cs) (all_proper n ds))
 

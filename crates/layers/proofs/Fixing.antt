@@ -1,5 +1,5 @@
 -- Literals as clauses of their own: what is told of them, and what they do to the models. Assumes nothing.
-use Rattle.std.proofs.Common.{◌≡◌, ℕ, ◌-◌, ◌≤◌, true, false, ◌&&◌, ◌||◌, leb, List, [], ◌∷◌, length, get_or, ℤ, pos, refl, ap, ◌∙◌, ⊎_elim, arith}
+use Rattle.std.proofs.Common.{◌≡◌, ℕ, ◌-◌, ◌<◌, ◌≤◌, true, false, ◌&&◌, ◌||◌, leb, List, [], ◌∷◌, length, get_or, ℤ, pos, refl, ap, ◌∙◌, ⊎_elim, arith}
 use Rattle.std.specs.List.{AllByRecursion}
 use Rattle.std.proofs.lemmas.List.{length-map, get_or-map}
 use Rattle.std.proofs.lemmas.Bool.{false≢true, and_parts, and_from, or_cases, or_left, cases_lt, leb-true, le-leb}
@@ -12,13 +12,14 @@ use Rattle.cnf.proofs.Asked.{clause_in, literal_none}
 use Rattle.cnf.proofs.Cuts.{no_literal, length_numbers, number_at}
 use Rattle.layers.proofs.Appended.{model_append, lawful_append}
 
--- clause k is literal k alone
+-- clause k is number k alone
+pub alone_at : (ls : List ℤ) (k : ℕ) → 0 < k → k ≤ 65536 → k - 1 < length ls → clause_at (units_of ls) k ≡ get_or ls (k - 1) (pos 0) ∷ []
+alone_at ls k p near h = clause_in (units_of ls) k p near ∙ get_or-map (λ l. l ∷ []) ls (k - 1) (pos 0) [] h
+
 pub unit_at : (ls : List Literal) (k : ℕ) → 1 ≤ k → k ≤ 65536 → k ≤ length ls → clause_at (units_of (numbers_of ls)) k ≡ (get_or ls (k - 1) no_literal).0 ∷ []
 unit_at ls k p near h =
     let e = length_numbers ls in
-    clause_in (units_of (numbers_of ls)) k p near
-    ∙ get_or-map (λ l. l ∷ []) (numbers_of ls) (k - 1) (pos 0) [] (omega arith)
-    ∙ ap (λ l. l ∷ []) (number_at ls (k - 1))
+    alone_at (numbers_of ls) k p near (omega arith) ∙ ap (λ l. l ∷ []) (number_at ls (k - 1))
 
 -- a clause of one literal tells 0 at each place but the first
 pub one_literal : (l : ℤ) (j : ℕ) → (j ≡ 1 → ⊥) → literal_at j (l ∷ []) ≡ pos 0

@@ -11,6 +11,9 @@ use cnf::{ClauseId, Literal, Source, check_form};
 /// The most variables of an assignment that is blocked.
 const MOST: usize = 1024;
 
+// As many values as there can be, all false.
+static UNSET: [bool; MOST] = [false; MOST];
+
 // The values of an assignment, as one clause that is false under it alone, over no variables.
 #[derive(Drop)]
 struct Denial {
@@ -28,9 +31,14 @@ fn values_of(claim: &[u8]) -> ArrayVec<bool, MOST>
     requires { length claim.now ≤ 1024 }
     ensures { result.items ≡ assignment_of claim.now }
 {
+    // the length at once, and then each value in its place, which costs less than a push for each byte
     let mut values = ArrayVec::new();
-    for b in claim {
-        values.push(*b == 1);
+    let Ok(()) = values.try_extend_from_slice(&UNSET[..claim.len()]) else {
+        unreachable!();
+    };
+    let all = values.as_mut_slice();
+    for (i, b) in claim.iter().enumerate() {
+        all[i] = *b == 1;
     }
     values
 }

@@ -1,7 +1,7 @@
 -- Chains of pages: what a write leaves of them, how they join, and how often a page stands in them.
-use Rattle.std.specs.Prelude.{◌≡◌, ℕ, zero, suc, ◌+◌, ◌-◌, ◌<◌, ◌≤◌, cond, ◌≢◌, List, [], ◌∷◌, ◌++◌, length, ◌==◌, nat_lt, slice_index_or, slice_set, refl}
-use Rattle.std.proofs.Common.{ap, ◌∙◌, ⊎_elim, arith}
-use Rattle.std.proofs.lemmas.List.{get_or-set_same, get_or-set_other}
+use Rattle.std.specs.Prelude.{◌≡◌, ℕ, zero, suc, ◌+◌, ◌-◌, ◌<◌, ◌≤◌, cond, ◌≢◌, List, [], ◌∷◌, ◌++◌, length, replicate, ◌==◌, nat_lt, slice_index_or, slice_set, refl}
+use Rattle.std.proofs.Common.{ap, ◌∙◌, ⊎_elim, arith, below_more}
+use Rattle.std.proofs.lemmas.List.{get_or-set_same, get_or-set_other, get_or-replicate}
 use Rattle.std.proofs.lemmas.List.Sums.{sum_by-cons, sum_by-append}
 use Rattle.std.proofs.lemmas.Bool.{eq-eqb, cases_lt, cases_eq}
 use Rattle.std.proofs.lemmas.Bool.Decides.{nat_tests}
@@ -129,6 +129,10 @@ fresh_one ps top next k h = let a = line_times ps top next k top 0 (omega arith)
 pub fresh_none : (ps : List Page) (top : ℕ) → LinkedLine ps top → (k : ℕ) → top ≤ k → owner_count ps 0 top [] k ≡ 0
 fresh_none ps top next k h = let a = line_times ps top next k top 0 (omega arith) in let g = spanned_out k top h in omega arith
 
+-- equal pages are full where one is
+pub full_same : (n : ℕ) (p : Page) → length p.literals ≡ 8 → FullPages (replicate n p) n
+full_same n p e k l = ap (λ q. length q.literals) (get_or-replicate n k p no_page l) ∙ e
+
 -- a write of a full page keeps all full
 pub full_set : (ps : List Page) (i : ℕ) (p : Page) (top : ℕ) → i < length ps → length p.literals ≡ 8 → FullPages ps top → FullPages (slice_set ps i p) top
 full_set ps i p top r e f k l =
@@ -136,6 +140,13 @@ full_set ps i p top r e f k l =
     (λ (q : k ≡ i). ap (λ j. length (slice_index_or (slice_set ps i p) j no_page).literals) q ∙ ap (λ q. length q.literals) (get_or-set_same ps i p no_page r) ∙ e)
     (λ ne. ap (λ q. length q.literals) (get_or-set_other ps i k p no_page ne) ∙ f k l)
     (cases_eq k i)
+
+-- one page more is linked to the next one
+pub linked_more : (ps : List Page) (i : ℕ) (p : Page) → i < length ps → p.next ≡ i + 1 → LinkedLine ps i → LinkedLine (slice_set ps i p) (i + 1)
+linked_more ps i p r e f =
+    below_more _ _
+    (λ k l. let ne : k ≢ i = omega arith in ap (λ q. q.next) (get_or-set_other ps i k p no_page ne) ∙ f k l)
+    (ap (λ q. q.next) (get_or-set_same ps i p no_page r) ∙ e)
 
 -- a shorter chain from the same page lies in the pages too
 pub chain_front : (ps : List Page) (m n h top : ℕ) → m ≤ n → ((k : ℕ) → top ≤ k → times_in k (page_chain ps n h) ≡ 0) → (k : ℕ) → top ≤ k → times_in k (page_chain ps m h) ≡ 0

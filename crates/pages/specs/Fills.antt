@@ -57,6 +57,15 @@ module _ (ps qs : List Page) (h need i p : ℕ) (part ls : List Literal)
       ∙ ap (λ m. get_or ls m no_literal) s)
       (cases_lt q (8 * i))
 
+-- one literal more of a page's part
+pub cut_more : (ls part : List Literal) (from j : ℕ) → j < length part → ((k : ℕ) → k < j → from + k < length ls → slice_index_or part k no_literal ≡ slice_index_or ls (from + k) no_literal)
+    → (k : ℕ) → k < j + 1 → from + k < length ls → slice_index_or (slice_set part j (slice_index_or ls (from + j) no_literal)) k no_literal ≡ slice_index_or ls (from + k) no_literal
+cut_more ls part from j l was k w v =
+    ⊎_elim
+    (λ (e : k ≡ j). ap (λ m. get_or (slice_set part j (slice_index_or ls (from + j) no_literal)) m no_literal) e ∙ get_or-set_same part j (slice_index_or ls (from + j) no_literal) no_literal l ∙ ap (λ m. get_or ls (from + m) no_literal) (sym e))
+    (λ (ne : k ≡ j → ⊥). get_or-set_other part j k (slice_index_or ls (from + j) no_literal) no_literal ne ∙ was k (omega arith) v)
+    (cases_eq k j)
+
 -- the page of a turn is a page
 pub turn_below : (ps : List Page) (i n h p top : ℕ) → p ≡ page_after ps i h → i < n → ((k : ℕ) → top ≤ k → times_in k (page_chain ps n h) ≡ 0) → p < top
 turn_below ps i n h p top e l none = let b = after_below ps i n h top l none in omega arith

@@ -1,7 +1,7 @@
 -- The numbers on a chain of full pages, by their places.
 use Rattle.std.specs.Prelude.{◌≡◌, ℕ, zero, suc, ◌-◌, ◌*◌, ◌/◌, ◌%◌, ◌<◌, ◌≤◌, List, length, get_or, take, pos, Some, slice_index_or, refl}
 use Rattle.std.proofs.Common.{sym, ap, ◌∙◌, ⊎_elim, arith}
-use Rattle.std.proofs.lemmas.List.{length-append, length-take-le, get_or_append_left, get_or-append_right, get_or-take, ext_get_or}
+use Rattle.std.proofs.lemmas.List.{length-append, length-take-le, get_or_append_left, get_or-append_right, get_or-take, get_or_past, ext_get_or}
 use Rattle.std.proofs.lemmas.Bool.{cases_lt, ne_eqb, cond-false}
 use Rattle.cnf.specs.declared.literal.Literal.{Literal}
 use Rattle.cnf.specs.Tabled.{numbers_of, length_numbers, no_literal, number_at}
@@ -62,6 +62,11 @@ module _ (ps : List Page) (e : Entry) (full : FullOn ps e.pages e.head) where
   pub clause_at_place : (q : ℕ) → q < e.size → slice_index_or (entry_clause ps e) q (pos 0) ≡ (get_or (get_or ps (page_after ps (q / 8) e.head) no_page).literals (q % 8) no_literal).0
   clause_at_place q l =
       get_or-take e.size (chain_numbers ps e.pages e.head) q (pos 0) l ∙ text_at ps e.pages e.head q full (omega (arith, fits))
+
+  pub literal_in_none : (j : ℕ) → e.size < j → literal_in j (Some (entry_clause ps e)) ≡ pos 0
+  literal_in_none j l =
+      let t = clause_length in
+      cond-false _ _ _ (ne_eqb j 0 (λ z. omega arith)) ∙ get_or_past (entry_clause ps e) (j - 1) (pos 0) (omega arith)
 
   pub literal_in_some : (j : ℕ) → 0 < j → j ≤ e.size → literal_in j (Some (entry_clause ps e)) ≡ (get_or (get_or ps (page_after ps ((j - 1) / 8) e.head) no_page).literals ((j - 1) % 8) no_literal).0
   literal_in_some j p l =

@@ -104,6 +104,24 @@ few_entries (e ∷ es) =
     let r = few_entries es in
     omega arith
 
+-- what an id at a place says of those before and after it
+pub rising_below : (es : List Entry) (m i : ℕ) → m < length es → RisingIds es → id_at es m < i → (k : ℕ) → k < m + 1 → id_at es k < i
+rising_below es m i l up h k w =
+    ⊎_elim (λ (v : k < m). let a = up k m v l in omega arith) (λ (v : m ≤ k). let e = ap (id_at es) (let e : k ≡ m = omega arith in e) in omega arith) (cases_lt k m)
+
+pub rising_above : (es : List Entry) (m i : ℕ) → RisingIds es → i ≤ id_at es m → (k : ℕ) → m ≤ k → k < length es → i ≤ id_at es k
+rising_above es m i up h k w l =
+    ⊎_elim (λ (v : m < k). let a = up m k v l in omega arith) (λ (v : k ≤ m). let e = ap (id_at es) (let e : k ≡ m = omega arith in e) in omega arith) (cases_lt m k)
+
+-- the first place whose id is not below an id, and has another id, is the id's gap
+pub gap_from : (es : List Entry) (i at : ℕ) → RisingIds es → at < length es → ((k : ℕ) → k < at → id_at es k < i) → i ≤ id_at es at → (id_at es at ≢ i) → GapAt es i at
+gap_from es i at up l before from ne =
+    record {
+      within = omega arith;
+      before = before;
+      after = λ k w h. let a = rising_above es at (i + 1) up (omega arith) k w h in omega arith;
+    }
+
 -- the ids still rise after an entry is put in or taken out
 module _ (es : List Entry) (at : ℕ) (e : Entry) (le : at ≤ length es) where
   before_is : (k : ℕ) → k < at → slice_index_or (inserted es at e) k no_entry ≡ slice_index_or es k no_entry

@@ -1,5 +1,5 @@
 -- Entries and the rows that they stand for: a search among them, and what stands where it ends.
-use Rattle.std.specs.Prelude.{◌≡◌, ℕ, zero, suc, ◌-◌, ◌<◌, ◌≤◌, true, List, [], ◌∷◌, ◌++◌, length, get_or, take, drop, Some, None, Ok, Err, Result, slice_index_or, refl}
+use Rattle.std.specs.Prelude.{◌≡◌, ℕ, zero, suc, ◌+◌, ◌-◌, ◌<◌, ◌≤◌, true, List, [], ◌∷◌, ◌++◌, length, get_or, take, drop, Some, None, Ok, Err, Result, ◌≢◌, slice_index_or, refl}
 use Rattle.std.specs.List.{AllWithin}
 use Rattle.std.specs.List.Sorted.{IsNonDecreasingBy, IsSearchInRange, IsBinarySearchResult}
 use Rattle.std.specs.Ordering.{nat_cmp, ordering_index}
@@ -14,13 +14,39 @@ use Rattle.std.specs.List.{insert as inserted, remove}
 use Rattle.store.specs.Tables.{cost, costs, free_units, lookup, insert, erase, Ascending}
 use Rattle.store.specs.Rows.{flat_kind, row_of, rows_of, clause_of, ids_ascend, place_in, FoundPlace}
 use Rattle.store.specs.Canon.{lookup_nil, lookup_there, ascending_insert, ascending_erase}
-use Rattle.store.specs.Places.{Here, ascending_from, ascends_from, place_next, place_first, lookup_at, insert_at, erase_at}
+use Rattle.store.specs.Places.{Here, ascending_from, ascends_from, place_next, place_first, place_past, place_not_past, lookup_at, absent_at, insert_at, erase_at}
 
 pub length_rows : (es : List Entry) → length (rows_of es) ≡ length es
 length_rows es = length-map es row_of
 
 pub row_at : (es : List Entry) (m : ℕ) (e : Entry) → m < length es → e ≡ slice_index_or es m e → slice_index_or (rows_of es) m (row_of e) ≡ row_of e
 row_at es m e h q = get_or-map row_of es m e (row_of e) h ∙ ap row_of (sym q)
+
+-- what any search by id may know of a place, be it by halves or entry by entry
+module _ (i : ℕ) (es : List Entry) (up : ids_ascend 0 (rows_of es) ≡ true) (m : ℕ) (e : Entry) (h : m < length es) (q : e ≡ slice_index_or es m e) where
+  -- the place lies past an entry with a lesser id, and else not
+  pub past : e.id < i → m + 1 ≤ place_in i (rows_of es)
+  past l =
+      let n = length_rows es in
+      let a = ap (λ (r : ℕ × Clause). r.0) (row_at es m e h q) in
+      place_past 0 i m (rows_of es) (row_of e) (ascending_from 0 (rows_of es) up) (omega arith) (omega arith)
+
+  pub not_past : i ≤ e.id → place_in i (rows_of es) ≤ m
+  not_past l =
+      let n = length_rows es in
+      let a = ap (λ (r : ℕ × Clause). r.0) (row_at es m e h q) in
+      place_not_past i m (rows_of es) (row_of e) (omega arith) (omega arith)
+
+-- the id is not held where the place is past the end, or another id stands there
+pub absent_end : (i : ℕ) (es : List Entry) → ids_ascend 0 (rows_of es) ≡ true → (p : ℕ) → p ≡ place_in i (rows_of es) → length es ≤ p → lookup i (rows_of es) ≡ None
+absent_end i es up p r h =
+    let n = length_rows es in
+    absent_at 0 i (rows_of es) (0, []) (ascending_from 0 (rows_of es) up) (λ w. let l = w.0 in omega arith)
+
+pub absent_other : (i : ℕ) (es : List Entry) → ids_ascend 0 (rows_of es) ≡ true → (p : ℕ) (e : Entry) → p ≡ place_in i (rows_of es) → p < length es → e ≡ slice_index_or es p e → (e.id ≢ i) → lookup i (rows_of es) ≡ None
+absent_other i es up p e r h q ne =
+    let a = ap (λ (x : ℕ × Clause). x.0) (ap (λ k. get_or (rows_of es) k (row_of e)) (sym r) ∙ row_at es p e h q) in
+    absent_at 0 i (rows_of es) (row_of e) (ascending_from 0 (rows_of es) up) (λ w. ne (sym a ∙ w.1))
 
 -- the ids are at least the least, and rise
 ids_from : (b k : ℕ) (es : List Entry) (d : Entry) → Ascending b (rows_of es) → k < length es → b ≤ (get_or es k d).id

@@ -1,11 +1,11 @@
 ghost use Rattle.std.specs.Prelude.{◌≡◌, ◌≤◌, true, [], IfOk, option_map, vec_len, vec_capacity};
-ghost use Rattle.store.specs.Rows.{flat_kind, clause_of, rows_of, ids_ascend, FoundPlace};
+ghost use Rattle.store.specs.Rows.{flat_kind, clause_of, rows_of, ids_ascend, place_in, FoundPlace};
 ghost use Rattle.store.specs.Tables.{lookup};
 ghost use Rattle.store.specs.Places.{ascending_from};
 ghost use Rattle.store.specs.Stands.{rows_within};
 ghost use Rattle.std.proofs.Common.{rules};
 
-use crate::entry::Entry;
+use crate::entry::{Entry, LONGEST};
 use crate::store::Store;
 use cnf::{ClauseId, Fault, Literal};
 use std::alloc::{AllocError, Global};
@@ -32,11 +32,37 @@ impl FlatStore {
         Ok(FlatStore { entries })
     }
 
+    // The number of clauses with a lesser id.
+    // By hand: over the library's search the compiler leaves `insert` a call, which moves the later entries one by one, and not
+    // as one block.
+    fn place(&self, id: u32) -> usize
+        ensures { result ≡ place_in id (rows_of self.now.entries.items) }
+    {
+        let mut low = 0;
+        let mut high = self.entries.len();
+        while low < high {
+            let middle = (low + high) / 2;
+            if self.entries[middle].id < id {
+                low = middle + 1;
+            } else {
+                high = middle;
+            }
+        }
+        low
+    }
+
     // Where the clause under an id stands, or else where it would.
     fn find(&self, id: ClauseId) -> Result<usize, usize>
         ensures { FoundPlace id.0 self.now.entries.items result }
     {
-        self.entries.binary_search_by_key(&id.0, |entry| entry.id)
+        let at = self.place(id.0);
+        if at >= self.entries.len() {
+            return Err(at);
+        }
+        if self.entries[at].id != id.0 {
+            return Err(at);
+        }
+        Ok(at)
     }
 
     // The entry of the clause under an id, where there is one.
@@ -63,10 +89,16 @@ impl Store for FlatStore {
         let Err(at) = self.find(id) else {
             return Err(Fault::IdHeld);
         };
-        let entry = Entry::of(id.0, literals).ok_or(Fault::TooLong)?;
+        if literals.len() > LONGEST {
+            return Err(Fault::TooLong);
+        }
         if self.entries.len() >= UNITS {
             return Err(Fault::NoRoom);
         }
+        // Made when all else is known, so that it is moved but once.
+        let Some(entry) = Entry::of(id.0, literals) else {
+            unreachable!()
+        };
         // Never refused: room for as many entries as there are units was taken when the store was made.
         self.entries.insert(at, entry).map_err(|_| Fault::NoRoom)
     }

@@ -8,7 +8,7 @@ use Rattle.words.specs.declared.kind.UnknownKind.{UnknownKind}
 use Rattle.words.specs.Kinds.{code_of, Decodes}
 use Rattle.words.specs.Layouts.{kind_of, decoded}
 
-other_kind : (w : ℕ) → ((kind : Kind) → kind_of w ≢ code_of kind) → decoded w ≡ None
+pub other_kind : (w : ℕ) → ((kind : Kind) → kind_of w ≢ code_of kind) → decoded w ≡ None
 unfolding decoded
 other_kind w other =
     rw (ne_eqb (kind_of w) 1 (other Board), ne_eqb (kind_of w) 2 (other Given), ne_eqb (kind_of w) 3 (other Less), ne_eqb (kind_of w) 5 (other Claim), ne_eqb (kind_of w) 15 (other End))

@@ -19,6 +19,8 @@ pub fn words_of(heap: Global, bytes: &[u8]) -> Result<Vec<u32>, AllocError>
         .map(|four| u32::from_le_bytes(*four))
         .collect(heap)?;
     if !odd.is_empty() {
+        // one word more, where a push alone would double the room of a long file
+        words.reserve_exact(1)?;
         words.push(ODD)?;
     }
     Ok(words)
@@ -30,7 +32,9 @@ pub fn bytes_of(heap: Global, words: &[u32]) -> Result<Vec<u8>, AllocError>
 {
     let mut bytes = Vec::new(heap);
     for word in words {
-        bytes.extend_from_slice(&word.to_le_bytes())?;
+        // taken apart into an array of their own: a copy from the call's array first tests at each word that it overlaps nothing
+        let [a, b, c, d] = word.to_le_bytes();
+        bytes.extend_from_slice(&[a, b, c, d])?;
     }
     Ok(bytes)
 }

@@ -20,13 +20,13 @@ fn denial(x: u32) -> Literal
 // Each function that lists asks for its room: starts have 32 bits, and how much is still to be listed only its caller knows. What
 // it asks of its numbers differs from one to the next.
 impl Draft {
-    // No clause yet.
-    pub(crate) fn new(heap: Global) -> Result<Draft, AllocError>
+    // No clause yet, and room for some literals.
+    pub(crate) fn new(heap: Global, room: usize) -> Result<Draft, AllocError>
         ensures { IfOk result (λ d. (draft_listing d ≡ []) × (vec_len d.literals ≡ 0)) }
     {
         let mut starts = Vec::new(heap);
         starts.push(0)?;
-        let literals = Vec::new(heap);
+        let literals = Vec::with_capacity(heap, room)?;
         Ok(Draft { literals, starts })
     }
 

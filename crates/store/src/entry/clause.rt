@@ -12,8 +12,11 @@ impl Entry {
     pub fn of(id: u32, literals: &[Literal]) -> Option<Entry>
         ensures { MadeOf id literals.now result }
     {
-        let literals = ArrayVec::try_from(literals).ok()?;
-        Some(Entry { id, literals })
+        let mut kept = ArrayVec::new();
+        if kept.try_extend_from_slice(literals).is_err() {
+            return None;
+        }
+        Some(Entry { id, literals: kept })
     }
 
     // The clause's length.

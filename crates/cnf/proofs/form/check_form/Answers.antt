@@ -22,10 +22,10 @@ returns-in-Some g c =
     let e = sym (form_stops n bs (omega arith) (omega arith) _ first) in
     record { answer = e; first = form_tells n bs _ e }
 
-pub returns-in-None : goal.returns-in-None
-returns-in-None g c =
+pub returns : goal.returns
+returns g c =
     let n = g.S.Source.vars c.args.source.now in
     let bs = c.args.claim.now in
-    let first = MatchOption-at_none _ _ c.in-None.is (IsFirst-from_position _ _ _ (λ b. 1 < b) (λ b. b ≤ 1) c.position.ensures.ran (YieldsList-from_slice _ c.iter.ensures.rest) (λ x q k. search (rules, tests)) (λ x q k. search (rules, tests))) in
+    let first = MatchOption-at_none _ _ c.in_default.is (IsFirst-from_position _ _ _ (λ b. 1 < b) (λ b. b ≤ 1) c.position.ensures.ran (YieldsList-from_slice _ c.iter.ensures.rest) (λ x q k. search (rules, tests)) (λ x q k. search (rules, tests))) in
     let e = sym (form_fits n bs (omega arith) (omega arith) first) in
     record { answer = e; first = form_tells n bs _ e }

@@ -1,6 +1,6 @@
-use Rattle.std.proofs.Common.{◌≡◌, take}
+use Rattle.std.proofs.Common.{◌≡◌, length, take}
 use Rattle.cnf.specs.Checks.{assignment_of}
 use Rattle.layers.proofs.block.values_of.Given as goal
 
-abbrev pub invariant-loop-b : goal.invariant-loop-b
-invariant-loop-b l = l.values.items ≡ assignment_of (take l.b-index l.claim)
+abbrev pub invariant-loop-i : goal.invariant-loop-i
+invariant-loop-i l = (length l.all ≡ length l.claim) × (take l.i l.all ≡ assignment_of (take l.i l.claim))
